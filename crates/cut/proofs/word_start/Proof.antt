@@ -1,0 +1,77 @@
+use mathlib.Core.Path.{_≡_, ap, sym}
+use Prim.Native.Nat.{ℕ, _*_, _/_}
+use native.Mathlib.Nat.{div-mul-le-self}
+use mir.Facts.{fits-le}
+use borrow.Author.Needs.{needs}
+use Rattle.cut.proofs.word_start.Statement.{statement}
+use Rattle.cut.proofs.word_start.Tie as tie
+use Rattle.cut.proofs.word_start.Reads as reads
+use Rattle.cut.proofs.word_start.Lts as lts
+
+at-width : (a : ℕ) {w k : ℕ} → w ≡ k → a / k * k ≡ a / w * w
+at-width a e = ap (λ (n : ℕ). a / n * n) (sym e)
+
+mul-result : tie.Need-mul-result
+mul-result c = search needs
+
+mul-result-2 : tie.Need-mul-result-2
+mul-result-2 c = search needs
+
+mul-result-3 : tie.Need-mul-result-3
+mul-result-3 c = search needs
+
+mul-result-4 : tie.Need-mul-result-4
+mul-result-4 c = search needs
+
+mul-result-5 : tie.Need-mul-result-5
+mul-result-5 c = search needs
+
+mul-result-6 : tie.Need-mul-result-6
+mul-result-6 c = search needs
+
+div-result : tie.Need-div-result
+div-result c = search needs
+
+mul-result-7 : tie.Need-mul-result-7
+mul-result-7 c = fits-le (div-mul-le-self (c .before .args .at) (c .before .args .width)) (c .before .fits .at)
+
+returns : tie.Need-returns
+returns c = at-width (c .before .args .at) (c .match .keys1)
+
+returns-2 : tie.Need-returns-2
+returns-2 c = at-width (c .before .args .at) (c .match .keys2)
+
+returns-3 : tie.Need-returns-3
+returns-3 c = at-width (c .before .args .at) (c .match .keys3)
+
+returns-4 : tie.Need-returns-4
+returns-4 c = at-width (c .before .args .at) (c .match .keys4)
+
+returns-5 : tie.Need-returns-5
+returns-5 c = at-width (c .before .args .at) (c .match .keys5)
+
+returns-6 : tie.Need-returns-6
+returns-6 c = at-width (c .before .args .at) (c .match .keys6)
+
+returns-7 : tie.Need-returns-7
+returns-7 c = search needs
+
+pub word-start-spec : {M : Type 1} → statement M
+word-start-spec =
+    tie.close
+    (tie.spec
+    mul-result
+    mul-result-2
+    mul-result-3
+    mul-result-4
+    mul-result-5
+    mul-result-6
+    div-result
+    mul-result-7
+    returns
+    returns-2
+    returns-3
+    returns-4
+    returns-5
+    returns-6
+    returns-7)

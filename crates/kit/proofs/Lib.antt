@@ -1,0 +1,4 @@
+pub mod Choice
+pub mod Legal
+pub mod Lists
+pub mod Numbers

@@ -1,0 +1,4 @@
+pub mod Choice
+pub mod Answer
+pub mod Settings
+pub mod Word

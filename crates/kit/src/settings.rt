@@ -1,0 +1,32 @@
+// Document 01, answer 1: the widths and burst lengths an engine can be built with.
+ghost use mathlib.Core.Path.{_≡_};
+ghost use Rattle.kit.specs.Settings.{legalWidth, legalBeats, legalSettings};
+
+fn legal_width(width: u32) -> bool
+    ensures { λ r. ⌜ r ≡ legalWidth width ⌝ }
+{
+    match width {
+        4 | 8 | 16 | 32 | 64 | 128 => true,
+        _ => false,
+    }
+}
+
+fn legal_beats(beats: u32) -> bool
+    ensures { λ r. ⌜ r ≡ legalBeats beats ⌝ }
+{
+    match beats {
+        2 | 4 | 8 | 16 | 32 | 64 | 128 | 256 => true,
+        _ => false,
+    }
+}
+
+// Whether width and beats are both on document 01's lists.
+pub fn legal(width: u32, beats: u32) -> bool
+    ensures { λ r. ⌜ r ≡ legalSettings width beats ⌝ }
+{
+    if legal_width(width) {
+        legal_beats(beats)
+    } else {
+        false
+    }
+}

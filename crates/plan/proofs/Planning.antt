@@ -1,0 +1,94 @@
+-- What it takes for a plan not to be refused, and that two plans of one transfer are equal.
+use mathlib.Core.Path.{_≡_, refl, sym, ap, subst, _∙_}
+use Prim.Native.Nat.{ℕ, _+_, _*_, _≤_, _<_, _^_}
+use mathlib.Core.Bool.{Bool, true, false}
+use mathlib.Core.List.{List}
+use lib.ListN.{length}
+use lib.Seq.{sets}
+use lib.Dec.{eqb, ltb}
+use native.Mathlib.Omega.{arith}
+use borrow.Author.Tests.{ltb-false, eqb-false, eq-eqb, ne-eqb}
+use Rattle.kit.specs.Choice.{when, either}
+use Rattle.kit.specs.Settings.{legalSettings}
+use Rattle.kit.specs.Answer.{numberOf}
+use Rattle.kit.proofs.Choice.{yes, no, never}
+use Rattle.kit.proofs.Numbers.{number-tells}
+use Rattle.cut.specs.Cut.{cut}
+use Rattle.plan.specs.declared.PlannedForC.{PlannedForC}
+use Rattle.plan.specs.declared.measure.Planned.{Planned}
+use Rattle.plan.specs.Plan.{mostBytes, addressEnd, outOfRange, Measured, refusal, measureOf, Plan, written, measured, seen, seenBytes}
+
+-- a range that is not refused
+pub record InRange (start count : ℕ) : Type 0 where
+  pub some : 0 < count
+  pub few : count ≤ mostBytes
+  pub inside : start + count ≤ addressEnd
+
+pub in-range : (start count : ℕ) → outOfRange start count ≡ false → InRange start count
+in-range start count e = go (eqb count 0) (ltb mostBytes count) (ltb addressEnd (start + count)) refl refl refl e
+  where
+    go : (t u v : Bool) → eqb count 0 ≡ t → ltb mostBytes count ≡ u → ltb addressEnd (start + count) ≡ v
+        → either t (either u v) ≡ false → InRange start count
+    go true u v p q r e = absurd (never (sym e))
+    go false true v p q r e = absurd (never (sym e))
+    go false false true p q r e = absurd (never (sym e))
+    go false false false p q r e =
+        let nonzero = eqb-false count 0 p in
+        record { some = omega (arith, nonzero); few = ltb-false mostBytes count q; inside = ltb-false addressEnd (start + count) r }
+
+-- a plan whose answer is 0
+pub record Planable (w l start count room : ℕ) : Type 0 where
+  pub legal : legalSettings w l ≡ true
+  pub range : InRange start count
+  pub fits : 2 * length (cut w l start (start + count)) ≤ room
+
+pub planable : (w l start count room : ℕ) → measureOf w l start count room .answer ≡ 0 → Planable w l start count room
+unfolding measureOf
+planable w l start count room e = go (legalSettings w l) (outOfRange start count) (ltb room (2 * n)) refl refl refl e
+  where
+    n : ℕ
+    n = length (cut w l start (start + count))
+
+    go : (t u v : Bool) → legalSettings w l ≡ t → outOfRange start count ≡ u → ltb room (2 * n) ≡ v
+        → when t (when u (refusal 7) (when v (refusal 8) (record { answer = 0; bursts = n }))) (refusal 1) .answer ≡ 0
+        → Planable w l start count room
+    go false u v p q r e = absurd (omega arith)
+    go true true v p q r e = absurd (omega arith)
+    go true false true p q r e = absurd (omega arith)
+    go true false false p q r e = record { legal = p; range = in-range start count q; fits = ltb-false room (2 * n) r }
+
+-- what a caller sees of a result whose answer has the number k
+abbrev pub given : ℕ → ℕ → List ℕ → Plan
+given k bursts places = record { answer = k; bursts = bursts; places = places }
+
+-- a measured plan of number 0 that wrote its values, and one of another number that wrote nothing, are what is promised
+module _ (r : Planned) {m : Measured} (measures : measured r ≡ m) {k : ℕ} (numbered : k ≡ numberOf (r .answer)) (values places : List ℕ) where
+  pub zero-answer : k ≡ 0 → m .answer ≡ 0
+  zero-answer z = sym (ap (λ (x : Measured). x .answer) measures) ∙ sym numbered ∙ z
+
+  pub writes : {out : List ℕ} → k ≡ 0 → out ≡ sets places 0 values → given k (r .bursts) out ≡ written m values places
+  writes {out} z e =
+      ap (λ (x : ℕ). given x (r .bursts) out) numbered
+      ∙ ap (given (numberOf (r .answer)) (r .bursts)) (yes places (eq-eqb (numberOf (r .answer)) 0 (sym numbered ∙ z)) e)
+      ∙ ap (λ (x : Measured). written x values places) measures
+
+  pub keeps : (k ≡ 0 → ⊥) → given k (r .bursts) places ≡ written m values places
+  keeps z =
+      ap (λ (x : ℕ). given x (r .bursts) places) numbered
+      ∙ ap (given (numberOf (r .answer)) (r .bursts)) (no (sets places 0 values) (ne-eqb (numberOf (r .answer)) 0 (λ e. z (numbered ∙ e))) refl)
+      ∙ ap (λ (x : Measured). written x values places) measures
+
+-- two results that one contract allows are equal, and so are the slices they leave
+pub plan-unique : {p q : Planned} {a b : List ℕ} {x : Plan} → seen p a ≡ x → seen q b ≡ x → (p ≡ q) × (a ≡ b)
+plan-unique {p} {q} e f =
+    let same = e ∙ sym f in
+    let answers = number-tells (ap (λ (y : Plan). y .answer) same) in
+    let bursts = ap (λ (y : Plan). y .bursts) same in
+    (λ i. record { answer = answers i; bursts = bursts i }, ap (λ (y : Plan). y .places) same)
+
+pub plan-bytes-unique : {p q : PlannedForC} {a b : List ℕ} {x : Plan} → seenBytes p a ≡ x → seenBytes q b ≡ x → (p ≡ q) × (a ≡ b)
+plan-bytes-unique {p} {q} e f =
+    let same = e ∙ sym f in
+    let answers = ap (λ (y : Plan). y .answer) same in
+    let bursts = ap (λ (y : Plan). y .bursts) same in
+    (λ i. record { answer = answers i; bursts = bursts i }, ap (λ (y : Plan). y .places) same)

@@ -1,0 +1,63 @@
+use mathlib.Core.Path.{sym, ap, _∙_}
+use Prim.Native.Nat.{_+_, _/_}
+use native.Mathlib.Omega.{arith}
+use borrow.Author.Needs.{needs}
+use denote.Ref.{now}
+use mathlib.Core.List.{[]}
+use lib.ListN.{length}
+use Rattle.cut.specs.Cut.{cut}
+use Rattle.plan.specs.Plan.{placesOf, littleOf}
+use Rattle.plan.proofs.Planning.{Planable, planable, zero-answer, writes, keeps}
+use Rattle.plan.proofs.belikumba_plan.Statement.{statement}
+use Rattle.plan.proofs.belikumba_plan.Tie as tie
+use Rattle.plan.proofs.belikumba_plan.Reads as reads
+use Rattle.plan.proofs.belikumba_plan.Lts as lts
+use Rattle.kit.proofs.answer.number.Reads as number-reads
+use Rattle.plan.proofs.fill.bytes.Reads as bytes-reads
+use Rattle.plan.proofs.measure.measure.Reads as measure-reads
+
+measure-requires : tie.Need-measure-requires
+measure-requires c κs = search needs
+
+number-requires : tie.Need-number-requires
+number-requires c κs = search needs
+
+add-bytes : tie.Need-add-bytes
+add-bytes c = search needs
+
+bytes-requires : tie.Need-bytes-requires
+bytes-requires c κs =
+    let a = c .before .before .before .before .before .args in
+    let m = c .before .before .before .measure in
+    let k = c .before .before .number .ensures in
+    let p = planable (a .width) (a .beats) (a .start) (a .count) (length (now (a .places)) / 4) (zero-answer (m .result) (m .ensures) k [] [] (c .before .if1 .taken)) in
+    (p .legal, (omega arith, (p .range .inside, omega arith)))
+
+same-length : tie.Need-same-length
+same-length c = search needs
+
+returns : tie.Need-returns
+returns c =
+    let a = c .before .before .before .before .before .before .before .before .args in
+    let m = c .before .before .before .before .before .before .measure in
+    let k = c .before .before .before .before .before .number .ensures in
+    writes (m .result) (m .ensures) k (littleOf (placesOf (cut (a .width) (a .beats) (a .start) (a .start + a .count)))) (now (a .places)) (c .before .before .before .before .if1 .taken) (c .before .before .bytes .ensures)
+
+returns-2 : tie.Need-returns-2
+returns-2 c =
+    let a = c .before .before .before .before .args in
+    let m = c .before .before .measure in
+    let k = c .before .number .ensures in
+    keeps (m .result) (m .ensures) k (littleOf (placesOf (cut (a .width) (a .beats) (a .start) (a .start + a .count)))) (now (a .places)) (c .if1 .left)
+
+pub belikumba-plan-spec : {M : Type 1} → statement M
+belikumba-plan-spec =
+    tie.close
+    (tie.spec
+    measure-requires
+    number-requires
+    add-bytes
+    bytes-requires
+    same-length
+    returns
+    returns-2)

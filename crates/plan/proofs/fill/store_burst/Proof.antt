@@ -1,0 +1,35 @@
+use mathlib.Core.Path.{ap, _∙_}
+use Prim.Native.Nat.{ℕ, _+_}
+use mathlib.Core.List.{List}
+use lib.Seq.{sets}
+use borrow.Author.Needs.{needs}
+use denote.Ref.{now}
+use Rattle.kit.specs.Word.{bytesOf}
+use Rattle.plan.proofs.Walk.{little-pair}
+use Rattle.plan.proofs.fill.store_burst.Statement.{statement}
+use Rattle.plan.proofs.fill.store_burst.Tie as tie
+use Rattle.plan.proofs.fill.store_burst.Reads as reads
+use Rattle.plan.proofs.fill.store_burst.Lts as lts
+use Rattle.kit.proofs.word.store.Reads as store-reads
+
+store-requires : tie.Need-store-requires
+store-requires c κs = search needs
+
+add-store : tie.Need-add-store
+add-store c = search needs
+
+store-requires-2 : tie.Need-store-requires-2
+store-requires-2 c κs = search needs
+
+same-length : tie.Need-same-length
+same-length c = search needs
+
+returns : tie.Need-returns
+returns c =
+    let a = c .before .before .before .before .before .before .before .before .before .args in
+    c .before .before .store2 .ensures ∙ ap (λ (m : List ℕ). sets m (a .place + 4) (bytesOf (a .bytes))) (c .before .before .before .before .before .before .store .ensures)
+    ∙ little-pair (now (a .places)) (a .place) (a .start) (a .bytes)
+
+pub store-burst-spec : {M : Type 1} → statement M
+store-burst-spec =
+    tie.close (tie.spec store-requires add-store store-requires-2 same-length returns)

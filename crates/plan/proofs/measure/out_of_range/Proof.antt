@@ -1,0 +1,23 @@
+use mathlib.Core.Path.{refl}
+use borrow.Author.Needs.{needs}
+use borrow.Author.Tests.{eq-eqb, ne-eqb, lt-ltb, le-ltb}
+use Rattle.kit.proofs.Choice.{yes, no}
+use Rattle.plan.proofs.measure.out_of_range.Statement.{statement}
+use Rattle.plan.proofs.measure.out_of_range.Tie as tie
+use Rattle.plan.proofs.measure.out_of_range.Reads as reads
+use Rattle.plan.proofs.measure.out_of_range.Lts as lts
+
+returns : tie.Need-returns
+returns c = yes _ (eq-eqb _ 0 (c .if1 .taken)) refl
+
+returns-2 : tie.Need-returns-2
+returns-2 c = no _ (ne-eqb _ 0 (c .before .if1 .left)) (yes _ (lt-ltb _ _ (c .if2 .taken)) refl)
+
+add-result : tie.Need-add-result
+add-result c = search needs
+
+returns-3 : tie.Need-returns-3
+returns-3 c = no _ (ne-eqb _ 0 (c .before .if1 .left)) (no _ (le-ltb _ _ (c .if2 .left)) refl)
+
+pub out-of-range-spec : {M : Type 1} → statement M
+out-of-range-spec = tie.close (tie.spec returns returns-2 add-result returns-3)

@@ -1,0 +1,63 @@
+use mathlib.Core.Path.{sym, ap, _∙_}
+use Prim.Native.Nat.{ℕ, _+_}
+use native.Mathlib.Omega.{arith}
+use borrow.Author.Needs.{needs}
+use denote.Ref.{now}
+use mathlib.Core.List.{[]}
+use lib.ListN.{length}
+use Rattle.cut.specs.Cut.{cut}
+use Rattle.plan.specs.Plan.{placesOf}
+use Rattle.plan.proofs.Planning.{Planable, planable, zero-answer, given, writes, keeps}
+use Rattle.plan.proofs.plan.Statement.{statement}
+use Rattle.plan.proofs.plan.Tie as tie
+use Rattle.plan.proofs.plan.Reads as reads
+use Rattle.plan.proofs.plan.Lts as lts
+use Rattle.kit.proofs.answer.number.Reads as number-reads
+use Rattle.plan.proofs.fill.places.Reads as places-reads
+use Rattle.plan.proofs.measure.measure.Reads as measure-reads
+
+measure-requires : tie.Need-measure-requires
+measure-requires c κs = search needs
+
+number-requires : tie.Need-number-requires
+number-requires c κs = search needs
+
+add-places : tie.Need-add-places
+add-places c = search needs
+
+places-requires : tie.Need-places-requires
+places-requires c κs =
+    let a = c .before .before .before .before .before .args in
+    let m = c .before .before .before .measure in
+    let k = c .before .before .number .ensures in
+    let p = planable (a .width) (a .beats) (a .start) (a .count) (length (now (a .places))) (zero-answer (m .result) (m .ensures) k [] [] (c .before .if1 .taken)) in
+    (p .legal, (omega arith, (p .range .inside, omega arith)))
+
+same-length : tie.Need-same-length
+same-length c = search needs
+
+returns : tie.Need-returns
+returns c =
+    let a = c .before .before .before .before .before .before .before .before .args in
+    let m = c .before .before .before .before .before .before .measure in
+    let k = c .before .before .before .before .before .number .ensures in
+    ap (λ (x : ℕ). given x (m .result .bursts) (c .before .before .places .last .1 .1 .1 .1 .0)) (sym k) ∙ writes (m .result) (m .ensures) k (placesOf (cut (a .width) (a .beats) (a .start) (a .start + a .count))) (now (a .places)) (c .before .before .before .before .if1 .taken) (c .before .before .places .ensures)
+
+returns-2 : tie.Need-returns-2
+returns-2 c =
+    let a = c .before .before .before .before .args in
+    let m = c .before .before .measure in
+    let k = c .before .number .ensures in
+    ap (λ (x : ℕ). given x (m .result .bursts) (now (a .places))) (sym k) ∙ keeps (m .result) (m .ensures) k (placesOf (cut (a .width) (a .beats) (a .start) (a .start + a .count))) (now (a .places)) (c .if1 .left)
+
+pub plan-spec : {M : Type 1} → statement M
+plan-spec =
+    tie.close
+    (tie.spec
+    measure-requires
+    number-requires
+    add-places
+    places-requires
+    same-length
+    returns
+    returns-2)

@@ -1,0 +1,86 @@
+// Whether a transfer can be planned, and its number of bursts.
+use cut::end_from;
+use cut::word_start;
+use kit::answer::Answer;
+use kit::settings::legal;
+ghost use mathlib.Core.Path.{_≡_};
+ghost use mathlib.Core.Bool.{true};
+ghost use Prim.Native.Nat.{_+_, _≤_, _^_};
+ghost use lib.ListN.{length};
+ghost use Rattle.kit.specs.Settings.{legalSettings};
+ghost use Rattle.cut.specs.Cut.{cut};
+ghost use Rattle.plan.specs.Plan.{outOfRange, measureOf, measured};
+
+// The answer, and the number of bursts, 0 beside a refusal.
+pub struct Planned {
+    pub answer: Answer,
+    pub bursts: u32,
+}
+
+// The largest transfer: what 23 bits can say.
+const MOST_BYTES: u32 = 8388607;
+// One past the last address.
+const ADDRESS_END: u64 = 4294967296;
+
+// The number of bursts of the bytes from `start` up to `end`. After the first burst each starts at a word, so that only
+// the first asks for a division.
+fn count_bursts(width: u32, beats: u32, start: u64, end: u64) -> u32
+    requires { ⌜ legalSettings width beats ≡ true ⌝ }
+    requires { ⌜ start ≤ end ⌝ }
+    requires { ⌜ end ≤ start + 8388607 ⌝ }
+    requires { ⌜ end ≤ 2 ^ 32 ⌝ }
+    ensures { λ r. ⌜ r ≡ length (cut width beats start end) ⌝ }
+{
+    let span = width as u64 * beats as u64;
+    let mut at = start;
+    let mut word = word_start(width, start);
+    let mut bursts: u32 = 0;
+    while at < end {
+        at = end_from(word, span, at, end);
+        word = at;
+        bursts += 1;
+    }
+    bursts
+}
+
+// A plan of 0 or too many bytes, or one that leaves the addresses.
+fn out_of_range(start: u32, count: u32) -> bool
+    ensures { λ r. ⌜ r ≡ outOfRange start count ⌝ }
+{
+    if count == 0 {
+        return true;
+    }
+    if count > MOST_BYTES {
+        return true;
+    }
+    start as u64 + count as u64 > ADDRESS_END
+}
+
+// Refusals in their order, 1, 7 and 8, else the number of bursts.
+pub fn measure(width: u32, beats: u32, start: u32, count: u32, room: usize) -> Planned
+    ensures { λ r. ⌜ measured r ≡ measureOf width beats start count room ⌝ }
+{
+    if !legal(width, beats) {
+        return Planned {
+            answer: Answer::Settings,
+            bursts: 0,
+        };
+    }
+    if out_of_range(start, count) {
+        return Planned {
+            answer: Answer::PlanRange,
+            bursts: 0,
+        };
+    }
+    let bursts = count_bursts(width, beats, start as u64, start as u64 + count as u64);
+    if room < 2 * bursts as usize {
+        return Planned {
+            answer: Answer::PlanRoom,
+            bursts: 0,
+        };
+    }
+    Planned {
+        answer: Answer::Done,
+        bursts,
+    }
+}

@@ -1,4 +1,5 @@
-// What every layer uses: document 01's numbered answers, and little-endian words.
+// What every layer uses: document 01's numbered answers, limits and settings, and little-endian words.
 pub mod answer;
+pub mod limits;
 pub mod settings;
 pub mod word;

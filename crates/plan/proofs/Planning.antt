@@ -9,6 +9,7 @@ use lib.Dec.{eqb, ltb}
 use native.Mathlib.Omega.{arith}
 use borrow.Author.Tests.{ltb-false, eqb-false, eq-eqb, ne-eqb}
 use Rattle.kit.specs.Choice.{when, either}
+use Rattle.kit.specs.Limits.{mostBytes, addressEnd}
 use Rattle.kit.specs.Settings.{legalSettings}
 use Rattle.kit.specs.Answer.{numberOf}
 use Rattle.kit.proofs.Choice.{yes, no, never}
@@ -16,7 +17,7 @@ use Rattle.kit.proofs.Numbers.{number-tells}
 use Rattle.cut.specs.Cut.{cut}
 use Rattle.plan.specs.declared.PlannedForC.{PlannedForC}
 use Rattle.plan.specs.declared.measure.Planned.{Planned}
-use Rattle.plan.specs.Plan.{mostBytes, addressEnd, outOfRange, Measured, refusal, measureOf, Plan, written, measured, seen, seenBytes}
+use Rattle.plan.specs.Plan.{outOfRange, Measured, refusal, measureOf, Plan, written, measured, seen, seenBytes}
 
 -- a range that is not refused
 pub record InRange (start count : ℕ) : Type 0 where

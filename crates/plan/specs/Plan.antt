@@ -1,11 +1,12 @@
 -- Document 01, "Cutting a transfer": what a plan answers and writes.
-use Prim.Native.Nat.{ℕ, _+_, _*_, _/_, _^_}
+use Prim.Native.Nat.{ℕ, _+_, _*_, _/_}
 use mathlib.Core.Bool.{Bool, true, false, not}
 use mathlib.Core.List.{List, [], _∷_, _++_}
 use lib.ListN.{length}
 use lib.Seq.{sets}
 use lib.Dec.{eqb, ltb}
 use Rattle.kit.specs.Choice.{when, either}
+use Rattle.kit.specs.Limits.{mostBytes, addressEnd}
 use Rattle.kit.specs.Settings.{legalSettings}
 use Rattle.kit.specs.Answer.{numberOf}
 use Rattle.kit.specs.Word.{bytesOf}
@@ -13,13 +14,6 @@ use Rattle.cut.specs.declared.Burst.{Burst}
 use Rattle.cut.specs.Cut.{cut}
 use Rattle.plan.specs.declared.PlannedForC.{PlannedForC}
 use Rattle.plan.specs.declared.measure.Planned.{Planned}
-
--- the most bytes of one transfer, and one past the last address
-abbrev pub mostBytes : ℕ
-mostBytes = 8388607
-
-abbrev pub addressEnd : ℕ
-addressEnd = 2 ^ 32
 
 -- a plan of 0 or too many bytes, or one that leaves the addresses: answer 7
 abbrev pub outOfRange : ℕ → ℕ → Bool

@@ -2,6 +2,8 @@
 use cut::end_from;
 use cut::word_start;
 use kit::answer::Answer;
+use kit::limits::ADDRESS_END;
+use kit::limits::MOST_BYTES;
 use kit::settings::legal;
 ghost use mathlib.Core.Path.{_≡_};
 ghost use mathlib.Core.Bool.{true};
@@ -16,11 +18,6 @@ pub struct Planned {
     pub answer: Answer,
     pub bursts: u32,
 }
-
-// The largest transfer: what 23 bits can say.
-const MOST_BYTES: u32 = 8388607;
-// One past the last address.
-const ADDRESS_END: u64 = 4294967296;
 
 // The number of bursts of the bytes from `start` up to `end`. After the first burst each starts at a word, so that only
 // the first asks for a division.

@@ -1,5 +1,6 @@
 // What every layer uses: document 01's numbered answers, limits and settings, and little-endian words.
 pub mod answer;
 pub mod limits;
+pub mod logic;
 pub mod settings;
 pub mod word;

@@ -1,0 +1,6 @@
+pub mod Copies
+pub mod Flat
+pub mod Groups
+pub mod Stores
+pub mod Touch
+pub mod Verdicts

@@ -1,0 +1,4 @@
+pub mod Burst
+pub mod Interval
+pub mod Verdict
+pub mod Windows

@@ -1,0 +1,3 @@
+pub mod State
+pub mod Read
+pub mod Write

@@ -1,0 +1,34 @@
+// Document 01, "Bus clocks": the fields of one clock, and their ranges.
+ghost use mathlib.Core.Path.{_≡_};
+ghost use Rattle.monitor.specs.Clock.{inRange};
+
+// `running` is document 01's reset-high: ARESETn is high, the clock is out of reset.
+pub struct Clock {
+    pub running: bool,
+    pub valid: bool,
+    pub ready: bool,
+    pub address: u32,
+    pub length: u32,
+    pub size: u32,
+    pub burst: u32,
+    pub cache: u32,
+    pub prot: u32,
+    pub qos: u32,
+    pub region: u32,
+    pub id: u32,
+}
+
+impl Clock {
+    // Whether no field asks for answer 13; address and id take any number.
+    pub fn in_range(self) -> bool
+        ensures { λ r. ⌜ r ≡ inRange self ⌝ }
+    {
+        (self.length < 256)
+            & (self.size < 8)
+            & (self.burst < 4)
+            & (self.cache < 16)
+            & (self.prot < 8)
+            & (self.qos < 16)
+            & (self.region < 16)
+    }
+}

@@ -1,0 +1,4 @@
+pub mod Bursts
+pub mod Entries
+pub mod Kept
+pub mod Walks

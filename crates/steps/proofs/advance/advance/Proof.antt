@@ -1,0 +1,95 @@
+use mathlib.Core.Path.{_≡_, sym, ap, subst, _∙_}
+use mathlib.Core.Bool.{true}
+use borrow.Author.Needs.{needs}
+use denote.Ref.{now}
+use Rattle.memory.specs.Windows.{windowsOf}
+use Rattle.engine.specs.declared.state.Phase.{Phase}
+use Rattle.engine.specs.State.{phaseFits}
+use Rattle.engine.proofs.WellFormed.{Parts, parts}
+use Rattle.steps.specs.Step.{next, advanceBy, advanceOf}
+use Rattle.steps.proofs.advance.advance.Statement.{statement}
+use Rattle.steps.proofs.advance.advance.Tie as tie
+use Rattle.steps.proofs.advance.advance.Reads as reads
+use Rattle.steps.proofs.advance.advance.Lts as lts
+use Rattle.steps.proofs.fetch.fetch.Reads as fetch-reads
+use Rattle.steps.proofs.shift.shift.Reads as shift-reads
+use Rattle.steps.proofs.update.update.Reads as update-reads
+
+enum-told : tie.Need-enum-told
+enum-told c = search needs
+
+enum-told-2 : tie.Need-enum-told-2
+enum-told-2 c = search needs
+
+fetch-requires : tie.Need-fetch-requires
+fetch-requires c κs = search needs
+
+enum-known-phase : tie.Need-enum-known-phase
+enum-known-phase c = search needs
+
+shift-requires : tie.Need-shift-requires
+shift-requires c κs =
+    let a = c .before .before .before .before .before .before .args in
+    (c .before .before .before .before .before .before .pre .0, subst (λ (p : Phase). phaseFits p (a .engine .control .chain) ≡ true) (c .before .before .phase .given .1) (parts (a .engine) (c .before .before .before .before .before .before .pre .1) .phase))
+
+enum-known-phase-2 : tie.Need-enum-known-phase-2
+enum-known-phase-2 c = search needs
+
+update-requires : tie.Need-update-requires
+update-requires c κs = search needs
+
+returns : tie.Need-returns
+unfolding advanceOf
+returns c =
+    let a = c .before .before .before .before .args in
+    let then = ap (advanceBy (a .engine) (now (a .memory)) (windowsOf (now (a .windows)))) (sym (c .enum-told .given .1)) in
+    then
+
+same-length : tie.Need-same-length
+same-length c = search needs
+
+returns-2 : tie.Need-returns-2
+unfolding advanceOf
+returns-2 c =
+    let a = c .before .before .before .before .before .before .args in
+    let then = ap (advanceBy (a .engine) (now (a .memory)) (windowsOf (now (a .windows)))) (sym (c .before .before .enum-told2 .given .1)) in
+    ap (λ r. next r (now (a .memory))) (c .fetch .ensures) ∙ then
+
+same-length-2 : tie.Need-same-length-2
+same-length-2 c = search needs
+
+returns-3 : tie.Need-returns-3
+unfolding advanceOf
+returns-3 c =
+    let a = c .before .before .before .before .before .before .before .before .before .args in
+    let then = ap (advanceBy (a .engine) (now (a .memory)) (windowsOf (now (a .windows)))) (sym (c .before .before .before .before .before .phase .given .1)) in
+    c .before .before .shift .ensures ∙ then
+
+same-length-3 : tie.Need-same-length-3
+same-length-3 c = search needs
+
+returns-4 : tie.Need-returns-4
+unfolding advanceOf
+returns-4 c =
+    let a = c .before .before .before .before .before .before .before .before .before .args in
+    let then = ap (advanceBy (a .engine) (now (a .memory)) (windowsOf (now (a .windows)))) (sym (c .before .before .before .before .before .phase2 .given .1)) in
+    c .before .before .update .ensures ∙ then
+
+pub advance-spec : {M : Type 1} → statement M
+advance-spec =
+    tie.close
+    (tie.spec
+    enum-told
+    enum-told-2
+    fetch-requires
+    enum-known-phase
+    shift-requires
+    enum-known-phase-2
+    update-requires
+    returns
+    same-length
+    returns-2
+    same-length-2
+    returns-3
+    same-length-3
+    returns-4)

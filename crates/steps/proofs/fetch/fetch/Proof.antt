@@ -1,0 +1,76 @@
+use mathlib.Core.Path.{refl, sym, ap, _∙_}
+use native.Mathlib.Omega.{arith}
+use borrow.Author.Needs.{needs}
+use denote.Ref.{now}
+use lib.ListN.{length}
+use Rattle.memory.specs.Windows.{windowsOf}
+use Rattle.memory.proofs.Groups.{group-okay-fits}
+use Rattle.steps.specs.Step.{fetchBy}
+use Rattle.steps.proofs.fetch.fetch.Statement.{statement}
+use Rattle.steps.proofs.fetch.fetch.Tie as tie
+use Rattle.steps.proofs.fetch.fetch.Reads as reads
+use Rattle.steps.proofs.fetch.fetch.Lts as lts
+use Rattle.memory.proofs.verdict.judge.Reads as judge-reads
+use Rattle.steps.proofs.fetch.taken.Reads as taken-reads
+use Rattle.steps.proofs.halt.halt.Reads as halt-reads
+
+cast-judge : tie.Need-cast-judge
+cast-judge c = search needs
+
+judge-requires : tie.Need-judge-requires
+judge-requires c κs = search needs
+
+enum-told : tie.Need-enum-told
+enum-told c = search needs
+
+cast-taken : tie.Need-cast-taken
+cast-taken c = search needs
+
+taken-requires : tie.Need-taken-requires
+taken-requires c κs =
+    let a = c .before .before .before .before .before .args in
+    group-okay-fits (length (now (a .memory))) (windowsOf (now (a .windows))) (a .engine .chain .current) 32 (sym (c .before .before .judge .ensures) ∙ c .enum-told .given .1) (omega arith)
+
+enum-told-2 : tie.Need-enum-told-2
+enum-told-2 c = search needs
+
+halt-requires : tie.Need-halt-requires
+halt-requires c κs = search needs
+
+enum-told-3 : tie.Need-enum-told-3
+enum-told-3 c = search needs
+
+halt-requires-2 : tie.Need-halt-requires-2
+halt-requires-2 c κs = search needs
+
+returns : tie.Need-returns
+returns c =
+    let a = c .before .before .before .before .before .before .args in
+    c .taken .ensures ∙ ap (fetchBy (a .engine) (now (a .memory))) (sym (c .before .enum-told .given .1) ∙ c .before .before .before .judge .ensures)
+
+returns-2 : tie.Need-returns-2
+returns-2 c =
+    let a = c .before .before .before .before .before .before .args in
+    c .halt .ensures ∙ ap (fetchBy (a .engine) (now (a .memory))) (sym (c .before .enum-told2 .given .1) ∙ c .before .before .before .judge .ensures)
+
+returns-3 : tie.Need-returns-3
+returns-3 c =
+    let a = c .before .before .before .before .before .before .args in
+    c .halt2 .ensures ∙ ap (fetchBy (a .engine) (now (a .memory))) (sym (c .before .enum-told3 .given .1) ∙ c .before .before .before .judge .ensures)
+
+pub fetch-spec : {M : Type 1} → statement M
+fetch-spec =
+    tie.close
+    (tie.spec
+    cast-judge
+    judge-requires
+    enum-told
+    cast-taken
+    taken-requires
+    enum-told-2
+    halt-requires
+    enum-told-3
+    halt-requires-2
+    returns
+    returns-2
+    returns-3)

@@ -1,0 +1,39 @@
+use mathlib.Core.Path.{ap}
+use borrow.Author.Needs.{needs}
+use borrow.Author.Tests.{eq-eqb, ne-eqb}
+use Rattle.kit.proofs.Choice.{yes, no}
+use Rattle.engine.specs.declared.state.Phase.{Phase}
+use Rattle.engine.specs.State.{withChain, withPhase}
+use Rattle.steps.specs.declared.event.Event.the-variants.{Fetch}
+use Rattle.steps.specs.declared.event.Advanced.{Advanced}
+use Rattle.engine.specs.Write.{pointer}
+use Rattle.steps.specs.Step.{takeOf}
+use Rattle.steps.proofs.fetch.take.Statement.{statement}
+use Rattle.steps.proofs.fetch.take.Tie as tie
+use Rattle.steps.proofs.fetch.take.Reads as reads
+use Rattle.steps.proofs.fetch.take.Lts as lts
+use Rattle.steps.proofs.fetch.described.Reads as described-reads
+use Rattle.steps.proofs.halt.halt.Reads as halt-reads
+
+halt-requires : tie.Need-halt-requires
+halt-requires c κs = search needs
+
+returns : tie.Need-returns
+unfolding takeOf
+returns c = yes _ (eq-eqb _ 1 (c .before .if1 .taken)) (c .halt .ensures)
+
+described-requires : tie.Need-described-requires
+described-requires c κs = search needs
+
+mul-t12 : tie.Need-mul-t12
+mul-t12 c = search needs
+
+returns-2 : tie.Need-returns-2
+unfolding takeOf
+returns-2 c =
+    let a = c .before .before .before .before .before .before .before .args in
+    no _ (ne-eqb _ 1 (c .before .before .before .before .before .before .if1 .left))
+    (ap {B = Advanced} (λ (p : Phase). record { event = Fetch (a .engine .chain .current); engine = withPhase (withChain (a .engine) (record { current = a .engine .chain .current; tail = a .engine .chain .tail; next = a .engine .chain .next; held = pointer (a .next) })) p }) (c .before .before .before .before .before .described .ensures))
+
+pub take-spec : {M : Type 1} → statement M
+take-spec = tie.close (tie.spec halt-requires returns described-requires mul-t12 returns-2)

@@ -1,0 +1,49 @@
+use mathlib.Core.Path.{sym, _∙_}
+use Prim.Native.Nat.{_/_}
+use borrow.Author.Needs.{needs}
+use denote.Ref.{now}
+use lib.ListN.{length}
+use Rattle.steps.proofs.Entries.{Passes, passes, step-refused, step-taken}
+use Rattle.steps.proofs.run.step.Statement.{statement}
+use Rattle.steps.proofs.run.step.Tie as tie
+use Rattle.steps.proofs.run.step.Reads as reads
+use Rattle.steps.proofs.run.step.Lts as lts
+use Rattle.kit.proofs.answer.number.Reads as number-reads
+use Rattle.steps.proofs.run.refusal.Reads as refusal-reads
+use Rattle.steps.proofs.run.walk.Reads as walk-reads
+
+refusal-requires : tie.Need-refusal-requires
+refusal-requires c κs = search needs
+
+number-requires : tie.Need-number-requires
+number-requires c κs = search needs
+
+returns : tie.Need-returns
+returns c =
+    let a = c .before .before .before .before .before .args in
+    let n = c .before .before .refusal .ensures in
+    let k = c .before .number .ensures in
+    step-refused (a .engine) (now (a .memory)) (now (a .windows)) n (λ z. c .if1 .taken (k ∙ z))
+
+walk-requires : tie.Need-walk-requires
+walk-requires c κs =
+    let a = c .before .before .before .before .before .before .args in
+    let n = c .before .before .before .refusal .ensures in
+    let k = c .before .before .number .ensures in
+    let p = passes (a .engine) (length (now (a .memory))) (length (now (a .windows)) / 2) (sym n ∙ sym k ∙ c .before .if1 .left) in
+    (p .legal, (p .small, p .well))
+
+same-length : tie.Need-same-length
+same-length c = search needs
+
+returns-2 : tie.Need-returns-2
+returns-2 c =
+    let a = c .before .before .before .before .before .before .before .before .before .before .args in
+    let n = c .before .before .before .before .before .before .before .refusal .ensures in
+    let k = c .before .before .before .before .before .before .number .ensures in
+    step-taken (a .engine) (now (a .memory)) (now (a .windows)) n (sym k ∙ c .before .before .before .before .before .if1 .left) (c .before .before .before .walk .ensures)
+
+pub step-spec : {M : Type 1} → statement M
+step-spec =
+    tie.close
+    (tie.spec refusal-requires number-requires returns walk-requires same-length returns-2)

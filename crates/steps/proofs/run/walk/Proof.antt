@@ -1,0 +1,77 @@
+use mathlib.Core.Path.{_≡_, refl, sym, ap, _∙_}
+use Prim.Native.Nat.{_-_}
+use mathlib.Core.Logic.{⊎-elim}
+use native.Mathlib.Omega.{arith}
+use lib.ListN.{length}
+use borrow.Author.Needs.{needs}
+use borrow.Author.Tests.{not-true, not-false}
+use Rattle.memory.specs.Windows.{windowsOf}
+use Rattle.steps.specs.declared.event.Event.the-variants.{None}
+use Rattle.steps.specs.Step.{Next, next}
+use Rattle.steps.specs.Run.{walkFrom}
+use Rattle.steps.proofs.Kept.{advance-length}
+use Rattle.steps.proofs.Walks.{Walking, walking-begin, walking-step, walking-done, walking-idle}
+use Rattle.steps.proofs.run.walk.Statement.{statement}
+use Rattle.steps.proofs.run.walk.Tie as tie
+use Rattle.steps.proofs.run.walk.Reads as reads
+use Rattle.steps.proofs.run.walk.Lts as lts
+use Rattle.engine.proofs.state.busy.Reads as busy-reads
+use Rattle.steps.proofs.advance.advance.Reads as advance-reads
+
+abbrev Inv-loop : tie.InvT-loop
+Inv-loop memory₀ windows most last₀ steps₀ memory last steps =
+    (length memory ≡ length memory₀) × Walking most steps (next last memory) (windowsOf windows) (walkFrom most 0 (next last₀ memory₀) (windowsOf windows))
+
+abbrev μ-loop : tie.MeasureT-loop
+μ-loop memory₀ windows most last₀ steps₀ memory last steps = most - steps
+
+loop-holds : tie.Need-loop-holds Inv-loop μ-loop
+loop-holds c =
+    let a = c .before .before .args in
+    let p = c .before .before .pre in
+    (refl, walking-begin (a .most) (next (record { event = None; engine = a .engine }) (a .memory .now)) (windowsOf (a .windows .now)) (p .0) (p .1 .1) (p .1 .0) (λ i. c .before .slice-known .given i .fits))
+
+busy-requires : tie.Need-busy-requires Inv-loop μ-loop
+busy-requires c κs = search needs
+
+advance-requires : tie.Need-advance-requires Inv-loop μ-loop
+advance-requires c κs = (c .before .before .before .before .before .loop .inv .1 .legal, c .before .before .before .before .before .loop .inv .1 .well)
+
+add-steps : tie.Need-add-steps Inv-loop μ-loop
+add-steps c = omega arith
+
+loop-less : tie.Need-loop-less Inv-loop μ-loop
+loop-less c = omega arith
+
+loop-again : tie.Need-loop-again Inv-loop μ-loop
+loop-again c =
+    let v = c .before .before .before .before .before .before .before .before .loop in
+    let a = c .before .before .before .before .before .before .before .before .before .before .before .args in
+    let e = c .before .before .advance .ensures in
+    let busy = sym (c .before .before .before .before .before .busy .ensures) ∙ not-false _ (c .before .before .before .before .if1 .left) in (
+      ap (λ (x : Next). length (x .memory)) e ∙ advance-length (v .last .engine) (v .memory) (windowsOf (a .windows .now)) ∙ v .inv .0,
+      walking-step (v .inv .1) (c .before .before .before .before .before .before .before .loop-test .taken) busy e (λ i. c .slice-known2 .given i .fits),
+    )
+
+same-length : tie.Need-same-length Inv-loop μ-loop
+same-length c = c .before .before .loop .inv .0
+
+returns : tie.Need-returns Inv-loop μ-loop
+returns c =
+    let v = c .before .before .loop in
+    ⊎-elim (λ w. walking-done (v .inv .1) (w .left)) (λ w. walking-idle (v .inv .1) (sym (w .2 .ensures) ∙ not-true _ (w .3 .taken))) (c .before .loop-test .came)
+
+pub walk-spec : {M : Type 1} → statement M
+walk-spec =
+    tie.close
+    (tie.spec
+    Inv-loop
+    μ-loop
+    loop-holds
+    busy-requires
+    advance-requires
+    add-steps
+    loop-less
+    loop-again
+    same-length
+    returns)

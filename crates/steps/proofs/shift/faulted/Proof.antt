@@ -1,0 +1,32 @@
+use mathlib.Core.Path.{refl, ap₂, _∙_}
+use Prim.Native.Nat.{ℕ}
+use borrow.Author.Needs.{needs}
+use Rattle.kit.proofs.Choice.{yes, no}
+use Rattle.engine.specs.declared.state.Engine.{Engine}
+use Rattle.steps.specs.declared.event.Event.the-variants.{Fault}
+use Rattle.steps.specs.declared.event.Advanced.{Advanced}
+use Rattle.steps.proofs.shift.faulted.Statement.{statement}
+use Rattle.steps.proofs.shift.faulted.Tie as tie
+use Rattle.steps.proofs.shift.faulted.Reads as reads
+use Rattle.steps.proofs.shift.faulted.Lts as lts
+use Rattle.steps.proofs.halt.bit_number.Reads as bit-number-reads
+use Rattle.steps.proofs.halt.halted.Reads as halted-reads
+
+bit-number-requires : tie.Need-bit-number-requires
+bit-number-requires c κs = search needs
+
+returns : tie.Need-returns
+returns c =
+    let a = c .before .before .before .before .before .before .before .args in
+    ap₂ {C = Advanced} (λ (n : ℕ) (s : Engine). record { event = Fault (a .destination) n; engine = s }) (c .before .before .before .before .before .before .bit-number .ensures) (yes _ (c .before .before .before .before .before .if1 .taken) refl)
+
+halted-requires : tie.Need-halted-requires
+halted-requires c κs = search needs
+
+returns-2 : tie.Need-returns-2
+returns-2 c =
+    let a = c .before .before .before .args in
+    ap₂ {C = Advanced} (λ (n : ℕ) (s : Engine). record { event = Fault (a .destination) n; engine = s }) (c .before .before .bit-number .ensures) (no _ (c .before .if1 .left) (c .halted .ensures))
+
+pub faulted-spec : {M : Type 1} → statement M
+faulted-spec = tie.close (tie.spec bit-number-requires returns halted-requires returns-2)

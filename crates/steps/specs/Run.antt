@@ -1,0 +1,86 @@
+-- Document 01, "Descriptor and steps" and "Numbered answers": a step and a run, with their refusals.
+use Prim.Native.Nat.{ℕ, zero, suc, _/_}
+use mathlib.Core.Bool.{true, false}
+use mathlib.Core.List.{List}
+use lib.ListN.{length}
+use lib.Dec.{eqb, ltb}
+use Rattle.kit.specs.Choice.{when}
+use Rattle.kit.specs.Answer.{numberOf}
+use Rattle.kit.specs.Limits.{mostMemory, mostWindows}
+use Rattle.kit.specs.Settings.{legalSettings}
+use Rattle.memory.specs.declared.window.Window.{Window}
+use Rattle.memory.specs.Windows.{windowsOf}
+use Rattle.engine.specs.declared.state.Engine.{Engine}
+use Rattle.engine.specs.State.{busyOf, wellFormedOf}
+use Rattle.steps.specs.declared.event.Event.{Event}
+use Rattle.steps.specs.declared.event.Event.the-variants.{None}
+use Rattle.steps.specs.declared.run.Stepped.{Stepped}
+use Rattle.steps.specs.declared.run.Ran.{Ran}
+use Rattle.steps.specs.declared.run.Walked.{Walked}
+use Rattle.steps.specs.Step.{Next, advanceOf}
+
+-- step and run: 1, 2, 6, 9, the first that fits, by the memory's bytes and the number of windows
+unfoldable pub refusalOf : Engine → ℕ → ℕ → ℕ
+refusalOf s size windows =
+    when (legalSettings (s .settings .width) (s .settings .beats))
+    (when (ltb mostMemory size) 2 (when (ltb mostWindows windows) 6 (when (wellFormedOf s) 0 9)))
+    1
+
+-- what some steps leave: the last event, their number, the state and the memory
+pub record Walk : Type 0 where
+  pub event : Event
+  pub steps : ℕ
+  pub engine : Engine
+  pub memory : List ℕ
+
+-- no step taken yet
+abbrev pub begun : Engine → List ℕ → Next
+begun s m = record { event = None; engine = s; memory = m }
+
+abbrev pub ended : ℕ → Next → Walk
+ended i r = record { event = r .event; steps = i; engine = r .engine; memory = r .memory }
+
+-- steps until idle or n more are taken, i taken before
+unfoldable pub walkFrom : ℕ → ℕ → Next → List Window → Walk
+walkFrom zero i r windows = ended i r
+walkFrom (suc n) i r windows =
+    elim (busyOf (r .engine .phase)) [ true ↦ walkFrom n (suc i) (advanceOf (r .engine) (r .memory) windows) windows | false ↦ ended i r ]
+
+abbrev pub walked : Walked → List ℕ → Walk
+walked r m = record { event = r .event; steps = r .steps; engine = r .engine; memory = m }
+
+-- a step: its answer's number, event, state and memory; a refusal leaves state and memory as they were, and no event
+pub record Step : Type 0 where
+  pub answer : ℕ
+  pub event : Event
+  pub engine : Engine
+  pub memory : List ℕ
+
+abbrev pub stepped : ℕ → Next → Step
+stepped n r = record { answer = n; event = r .event; engine = r .engine; memory = r .memory }
+
+unfoldable pub stepOf : Engine → List ℕ → List ℕ → Step
+stepOf s m windows =
+    let n = refusalOf s (length m) (length windows / 2) in
+    stepped n (when (eqb n 0) (advanceOf s m (windowsOf windows)) (begun s m))
+
+abbrev pub stepSeen : Stepped → List ℕ → Step
+stepSeen r m = record { answer = numberOf (r .answer); event = r .event; engine = r .engine; memory = m }
+
+-- a run: its answer's number, the steps taken, state and memory
+pub record Run : Type 0 where
+  pub answer : ℕ
+  pub steps : ℕ
+  pub engine : Engine
+  pub memory : List ℕ
+
+abbrev pub ran : ℕ → Walk → Run
+ran n w = record { answer = n; steps = w .steps; engine = w .engine; memory = w .memory }
+
+unfoldable pub runOf : ℕ → Engine → List ℕ → List ℕ → Run
+runOf most s m windows =
+    let n = refusalOf s (length m) (length windows / 2) in
+    ran n (when (eqb n 0) (walkFrom most 0 (begun s m) (windowsOf windows)) (ended 0 (begun s m)))
+
+abbrev pub runSeen : Ran → List ℕ → Run
+runSeen r m = record { answer = numberOf (r .answer); steps = r .steps; engine = r .engine; memory = m }

@@ -1,0 +1,18 @@
+// What one step reports.
+use cut::Burst;
+use engine::state::Engine;
+
+pub enum Event {
+    None,
+    Fetch(u32),
+    Move(Burst),
+    Fault { destination: u32, bit: u32 },
+    Update { current: u32, word: u32 },
+    Halt { current: u32, bit: u32 },
+}
+
+// A step's event, and the state after it.
+pub struct Advanced {
+    pub event: Event,
+    pub engine: Engine,
+}

@@ -1,0 +1,136 @@
+// One step and a run of steps, as a caller asks for them: any state, any memory, any windows.
+use crate::advance::advance;
+use crate::event::Advanced;
+use crate::event::Event;
+use engine::state::Engine;
+use engine::state::busy;
+use engine::state::well_formed;
+use kit::answer::Answer;
+use kit::answer::number;
+use kit::limits::MOST_MEMORY;
+use kit::limits::MOST_WINDOWS;
+use kit::settings::legal;
+ghost use mathlib.Core.Path.{_≡_};
+ghost use mathlib.Core.Bool.{true};
+ghost use Prim.Native.Nat.{_≤_, _/_};
+ghost use lib.ListN.{length};
+ghost use Rattle.kit.specs.Answer.{numberOf};
+ghost use Rattle.kit.specs.Limits.{mostMemory};
+ghost use Rattle.kit.specs.Settings.{legalSettings};
+ghost use Rattle.memory.specs.Windows.{windowsOf};
+ghost use Rattle.engine.specs.State.{wellFormedOf};
+ghost use Rattle.steps.specs.Step.{next};
+ghost use Rattle.steps.specs.Run.{refusalOf, walkFrom, begun, walked, stepOf, stepSeen, runOf, runSeen};
+
+// A step's answer, its event, none beside a refusal, and the state after it.
+pub struct Stepped {
+    pub answer: Answer,
+    pub event: Event,
+    pub engine: Engine,
+}
+
+// A run's answer, the steps it took, 0 beside a refusal, and the state after them.
+pub struct Ran {
+    pub answer: Answer,
+    pub steps: u32,
+    pub engine: Engine,
+}
+
+// The last event of some steps, their number, and the state after them.
+struct Walked {
+    event: Event,
+    steps: u32,
+    engine: Engine,
+}
+
+// The first answer that fits, in the order 1, 2, 6, 9, or done.
+fn refusal(engine: Engine, size: usize, windows: usize) -> Answer
+    ensures { λ r. ⌜ numberOf r ≡ refusalOf engine size windows ⌝ }
+{
+    if !legal(engine.settings.width, engine.settings.beats) {
+        return Answer::Settings;
+    }
+    if size > MOST_MEMORY {
+        return Answer::MemorySize;
+    }
+    if windows > MOST_WINDOWS {
+        return Answer::WindowCount;
+    }
+    if !well_formed(engine) {
+        return Answer::State;
+    }
+    Answer::Done
+}
+
+// Up to `most` steps, ended early where the engine is idle. Both entry points come through here, so that the step
+// itself has one caller and is compiled into the loop.
+fn walk(engine: Engine, memory: &mut [u8], windows: &[u32], most: u32) -> Walked
+    requires { ⌜ legalSettings (engine .settings .width) (engine .settings .beats) ≡ true ⌝ }
+    requires { ⌜ length (now memory) ≤ mostMemory ⌝ }
+    requires { ⌜ wellFormedOf engine ≡ true ⌝ }
+    ensures { λ r. ⌜ walked r (now (memory .exit)) ≡ walkFrom most 0 (begun engine (now (memory .entry))) (windowsOf (now (windows .entry))) ⌝ }
+{
+    let mut last = Advanced {
+        event: Event::None,
+        engine,
+    };
+    let mut steps: u32 = 0;
+    while steps < most {
+        let engine = last.engine;
+        let phase = engine.phase;
+        if !busy(phase) {
+            break;
+        }
+        last = advance(engine, memory, windows);
+        steps += 1;
+    }
+    let event = last.event;
+    let engine = last.engine;
+    Walked {
+        event,
+        steps,
+        engine,
+    }
+}
+
+pub fn step(engine: Engine, memory: &mut [u8], windows: &[u32]) -> Stepped
+    ensures { λ r. ⌜ stepSeen r (now (memory .exit)) ≡ stepOf engine (now (memory .entry)) (now (windows .entry)) ⌝ }
+{
+    let answer = refusal(engine, memory.len(), windows.len() / 2);
+    if number(answer) != 0 {
+        return Stepped {
+            answer,
+            event: Event::None,
+            engine,
+        };
+    }
+    let walked = walk(engine, memory, windows, 1);
+    let event = walked.event;
+    let engine = walked.engine;
+    Stepped {
+        answer,
+        event,
+        engine,
+    }
+}
+
+// A run of up to `most` steps; its refusals are judged once, at its start.
+pub fn run(engine: Engine, memory: &mut [u8], windows: &[u32], most: u16) -> Ran
+    ensures { λ r. ⌜ runSeen r (now (memory .exit)) ≡ runOf most engine (now (memory .entry)) (now (windows .entry)) ⌝ }
+{
+    let answer = refusal(engine, memory.len(), windows.len() / 2);
+    if number(answer) != 0 {
+        return Ran {
+            answer,
+            steps: 0,
+            engine,
+        };
+    }
+    let walked = walk(engine, memory, windows, most as u32);
+    let engine = walked.engine;
+    Ran {
+        answer,
+        steps: walked.steps,
+        engine,
+    }
+}

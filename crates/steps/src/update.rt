@@ -1,0 +1,103 @@
+// The update of a descriptor's status word.
+use crate::event::Advanced;
+use crate::event::Event;
+use crate::halt::halt;
+use crate::halt::halted;
+use engine::state::Chain;
+use engine::state::Engine;
+use engine::state::ErrorBit;
+use engine::state::Outcome;
+use engine::state::Phase;
+use engine::state::Status;
+use kit::word::store;
+use memory::verdict::Verdict;
+use memory::verdict::judge;
+ghost use mathlib.Core.Path.{_≡_};
+ghost use Prim.Native.Nat.{_+_, _≤_, _<_, _%_};
+ghost use Rattle.memory.specs.Windows.{windowsOf};
+ghost use Rattle.kit.specs.Limits.{addressEnd};
+ghost use Rattle.steps.specs.Step.{next, statusWordOf, completedOf, settledOf, updatedOf, updateOf};
+
+// The word for an outcome: complete is bit 31; an error only bit 30, 29 or 28.
+fn status_word(outcome: Outcome) -> u32
+    ensures { λ r. ⌜ r ≡ statusWordOf outcome ⌝ }
+{
+    match outcome {
+        Outcome::Complete => 0x80000000,
+        Outcome::Internal => 0x10000000,
+        Outcome::Slave => 0x20000000,
+        Outcome::Decode => 0x40000000,
+    }
+}
+
+// A good update: IOC_Irq, next is the held next; at the tail idle, else on to the next descriptor.
+fn completed(engine: Engine) -> Engine
+    ensures { λ r. ⌜ r ≡ completedOf engine ⌝ }
+{
+    let status = engine.status;
+    let status = Status {
+        complete: true,
+        ..status
+    };
+    let chain = engine.chain;
+    let chain = Chain {
+        next: chain.held,
+        ..chain
+    };
+    if chain.current == chain.tail {
+        return Engine {
+            status,
+            chain,
+            phase: Phase::Idle,
+            ..engine
+        };
+    }
+    let chain = Chain {
+        current: chain.held,
+        ..chain
+    };
+    Engine {
+        status,
+        chain,
+        phase: Phase::Fetch,
+        ..engine
+    }
+}
+
+fn settled(engine: Engine, outcome: Outcome) -> Engine
+    ensures { λ r. ⌜ r ≡ settledOf engine outcome ⌝ }
+{
+    match outcome {
+        Outcome::Complete => completed(engine),
+        Outcome::Internal => halted(engine, ErrorBit::DmaInternal),
+        Outcome::Slave => halted(engine, ErrorBit::DmaSlave),
+        Outcome::Decode => halted(engine, ErrorBit::DmaDecode),
+    }
+}
+
+fn updated(engine: Engine, outcome: Outcome, word: u32) -> Advanced
+    ensures { λ r. ⌜ r ≡ updatedOf engine outcome word ⌝ }
+{
+    let event = Event::Update {
+        current: engine.chain.current,
+        word,
+    };
+    let engine = settled(engine, outcome);
+    Advanced { event, engine }
+}
+
+pub fn update(engine: Engine, outcome: Outcome, memory: &mut [u8], windows: &[u32]) -> Advanced
+    ensures { λ r. ⌜ next r (now (memory .exit)) ≡ updateOf engine outcome (now (memory .entry)) (windowsOf (now (windows .entry))) ⌝ }
+{
+    let at = engine.chain.current as u64 + 28;
+    let verdict = judge(memory.len(), windows, at, 4);
+    match verdict {
+        Verdict::Okay => {
+            let word = status_word(outcome);
+            store(memory, at as usize, word);
+            updated(engine, outcome, word)
+        }
+        Verdict::Slave => halt(engine, ErrorBit::SgSlave),
+        Verdict::Decode => halt(engine, ErrorBit::SgDecode),
+    }
+}

@@ -1,0 +1,246 @@
+// The fixed short traces: every prefix and every changed byte of a few of them, and a list of
+// single cases at the edges of the record rules.
+
+use crate::damage::{BAD_SETTINGS, UNKNOWN_MARKS};
+use crate::maker::descriptor;
+use crate::random::Random;
+use crate::record::{Bus, Record};
+use crate::shadow::MEMORY;
+
+/// A trace with the numbers 1, 2, 3 and so on.
+fn numbered(all: &[Record]) -> Vec<u8> {
+    let mut bytes = Vec::new();
+    for (at, record) in all.iter().enumerate() {
+        record.encode(at as u32 + 1, &mut bytes);
+    }
+    bytes
+}
+
+fn write(offset: u16, value: u32) -> Record {
+    Record::Write { offset, value }
+}
+
+/// The whole case of document 01, with its own numbers.
+fn whole_case() -> Vec<u8> {
+    let mut bytes = Vec::new();
+    Record::Settings { width: 4, beats: 16 }.encode(1, &mut bytes);
+    write(24, 256).encode(2, &mut bytes);
+    write(32, 4088).encode(9, &mut bytes);
+    write(40, 16).encode(10, &mut bytes);
+    Record::Steps { steps: 5 }.encode(11, &mut bytes);
+    bytes
+}
+
+/// One record of each mark.
+fn each_mark() -> Vec<u8> {
+    let clock = Bus { bits: 3, length: 15, size: 2, burst: 1, address: 0xfc4, ..Bus::default() };
+    numbered(&[
+        Record::Settings { width: 8, beats: 4 },
+        Record::Memory { address: 16, bytes: vec![1, 2, 3] },
+        Record::Window { start: 512, length: 1 },
+        write(0x18, 16),
+        write(0x28, 3),
+        Record::Read { offset: 4 },
+        Record::Steps { steps: 2 },
+        Record::Bus(Bus { bits: 1, ..Bus::default() }),
+        Record::Bus(clock),
+    ])
+}
+
+/// A chain of two descriptors, cut in bursts.
+fn chain() -> Vec<u8> {
+    numbered(&[
+        Record::Memory { address: 64, bytes: descriptor(128, 1024, 2048, 70, 0, 0) },
+        Record::Memory { address: 128, bytes: descriptor(0, 1024, 4090, 9, 0, 0) },
+        write(0, 8),
+        write(8, 64),
+        write(16, 128),
+        Record::Steps { steps: 20 },
+        Record::Read { offset: 4 },
+    ])
+}
+
+/// Single cases.
+fn cases() -> Vec<Vec<u8>> {
+    let mut all = vec![Vec::new(), vec![0], b"C".to_vec(), b"AR".to_vec(), vec![0xff; 40]];
+    for (width, beats) in BAD_SETTINGS {
+        all.push(numbered(&[Record::Settings { width, beats }, Record::Read { offset: 4 }]));
+    }
+    for mark in UNKNOWN_MARKS {
+        let mut bytes = numbered(&[Record::Read { offset: 0 }, Record::Read { offset: 4 }]);
+        bytes[8..10].copy_from_slice(mark);
+        all.push(bytes);
+    }
+    for length in [0, 1, 2, 1023, 1024, 1025, 1026, 65_535] {
+        all.push(numbered(&[
+            Record::Memory { address: 8, bytes: vec![9; length] },
+            Record::Read { offset: 4 },
+        ]));
+    }
+    for (address, length) in [
+        (MEMORY - 1, 1),
+        (MEMORY - 1, 2),
+        (MEMORY, 1),
+        (MEMORY - 1024, 1024),
+        (MEMORY - 1023, 1024),
+        (u32::MAX, 1),
+        (u32::MAX - 1023, 1024),
+    ] {
+        all.push(numbered(&[
+            Record::Memory { address, bytes: vec![5; length] },
+            Record::Read { offset: 4 },
+        ]));
+    }
+    // Numbers: zero first, repeated, falling, the greatest, and nothing above it.
+    for numbers in [
+        [0, 1, 2],
+        [1, 1, 2],
+        [2, 1, 3],
+        [5, 4_294_967_295, 6],
+        [4_294_967_294, 4_294_967_295, 4_294_967_295],
+        [4_294_967_295, 0, 1],
+        [1, 2_147_483_648, 2_147_483_647],
+    ] {
+        let mut bytes = Vec::new();
+        for number in numbers {
+            Record::Read { offset: 4 }.encode(number, &mut bytes);
+        }
+        all.push(bytes);
+    }
+    // CF: late, twice, with an old number, with an old number and bad settings.
+    let settings = Record::Settings { width: 4, beats: 16 };
+    all.push(numbered(&[Record::Read { offset: 4 }, settings.clone()]));
+    all.push(numbered(&[settings.clone(), settings.clone()]));
+    for record in [settings, Record::Settings { width: 3, beats: 16 }] {
+        let mut bytes = Vec::new();
+        record.encode(0, &mut bytes);
+        all.push(bytes);
+    }
+    // Sixteen windows and seventeen, in use and not.
+    for count in [16, 17] {
+        let mut windows = vec![Record::Window { start: 600, length: 1 }; count];
+        windows.extend([write(0x18, 590), write(0x28, 20), Record::Steps { steps: 3 }]);
+        all.push(numbered(&windows));
+    }
+    // Windows that end at 2^32, before it and past it, with a copy below them and one in them.
+    for (start, length) in [
+        (600, u32::MAX),
+        (600, u32::MAX - 598),
+        (600, u32::MAX - 599),
+        (600, u32::MAX - 600),
+        (0, u32::MAX),
+        (MEMORY - 1, u32::MAX),
+        (u32::MAX, 1),
+        (u32::MAX, u32::MAX),
+    ] {
+        all.push(numbered(&[
+            Record::Window { start, length },
+            write(0x18, 500),
+            write(0x20, 550),
+            write(0x28, 50),
+            Record::Steps { steps: 9 },
+            write(0, 4),
+            write(0x20, 20_000),
+            write(0x28, 9),
+            Record::Steps { steps: 9 },
+            write(0, 4),
+            write(0x20, MEMORY - 9),
+            write(0x28, 9),
+            Record::Steps { steps: 9 },
+        ]));
+    }
+    // Each bus field at its greatest value and one above.
+    for (field, greatest) in [(0, 7), (2, 7), (3, 3), (4, 15), (5, 7), (6, 15), (7, 15)] {
+        for value in [greatest, greatest + 1, 255] {
+            for bits in [0u8, 1, 3] {
+                let mut bytes = numbered(&[Record::Bus(Bus { bits, ..Bus::default() })]);
+                bytes[6 + field] = value;
+                all.push(bytes);
+            }
+        }
+    }
+    // An old number beside another refusal: 10 comes before it, the record's own after it.
+    for record in [
+        Record::Window { start: 0, length: 0 },
+        Record::Memory { address: MEMORY, bytes: vec![1] },
+        Record::Memory { address: 0, bytes: Vec::new() },
+        Record::Bus(Bus { bits: 8, ..Bus::default() }),
+        Record::Write { offset: 3, value: 0 },
+        Record::Read { offset: 3 },
+    ] {
+        let mut bytes = numbered(&vec![Record::Window { start: 9, length: 0 }; 16]);
+        record.encode(16, &mut bytes);
+        all.push(bytes);
+    }
+    all.extend((0..32).map(each_bit));
+    all.extend(large());
+    all
+}
+
+/// One bit in every register and in the words of a descriptor, and what is kept of it.
+fn each_bit(number: u32) -> Vec<u8> {
+    let bit = 1 << number;
+    let mut all = Vec::new();
+    for offset in [0x08, 0x0c, 0x14, 0x18, 0x1c, 0x20, 0x24, 0x00] {
+        all.extend([write(offset, bit), Record::Read { offset }]);
+    }
+    // As a count: in BTT, and in a descriptor whose tail it is too.
+    all.extend([write(0, 4), write(0x20, 64), write(0x28, bit), Record::Read { offset: 0x28 }]);
+    all.extend([Record::Steps { steps: 3 }, Record::Read { offset: 4 }]);
+    let count = descriptor(0, 1024, 2048, bit, 0, bit);
+    all.extend([Record::Memory { address: 64, bytes: count }, write(0, 4), write(0, 8)]);
+    all.extend([write(8, 64), write(16, bit), Record::Read { offset: 16 }]);
+    all.extend([Record::Steps { steps: 3 }, Record::Read { offset: 4 }]);
+    // As a next pointer and as a status word.
+    let next = descriptor(bit, 1024, 2048, 4, bit, 0);
+    all.extend([Record::Memory { address: 128, bytes: next }, write(0, 4), write(0, 8)]);
+    all.extend([write(8, 128), write(16, 4096), Record::Steps { steps: 4 }]);
+    all.extend([Record::Read { offset: 8 }, Record::Read { offset: 4 }]);
+    // Written to CDMASR with both interrupts up.
+    all.extend([write(0, 4), write(0x28, 1), Record::Steps { steps: 1 }, write(0x28, 0)]);
+    all.extend([write(4, bit), Record::Read { offset: 4 }]);
+    numbered(&all)
+}
+
+/// Traces and listings longer than a pipe holds, and the longest run.
+fn large() -> [Vec<u8>; 3] {
+    let full = Record::Memory { address: 0, bytes: vec![1; 1024] };
+    let mut far = numbered(&vec![full; 1100]);
+    far.extend_from_slice(b"no record");
+    let copies = numbered(&[
+        Record::Settings { width: 4, beats: 2 },
+        write(0x18, 1),
+        write(0x20, 5),
+        write(0x28, 32_001),
+        Record::Steps { steps: 65_535 },
+        write(0x20, 700),
+        write(0x28, 32_000),
+        Record::Steps { steps: 65_535 },
+    ]);
+    // Eighteen descriptors of 3,842 steps each: more than one run can take.
+    let mut long = vec![Record::Settings { width: 4, beats: 2 }];
+    for at in 0..18 {
+        let bytes = descriptor((at + 1) * 64, 2040, 2048, 30_720, 0, 0);
+        long.push(Record::Memory { address: at * 64, bytes });
+    }
+    long.extend([write(0, 8), write(16, 17 * 64)]);
+    long.extend([Record::Steps { steps: 65_535 }, Record::Steps { steps: 65_535 }]);
+    [far, copies, numbered(&long)]
+}
+
+/// All of them, with the name of their family.
+pub fn all() -> Vec<(&'static str, Vec<u8>)> {
+    let mut random = Random::new(0, 0);
+    let mut all: Vec<_> = cases().into_iter().map(|bytes| ("case", bytes)).collect();
+    for base in [whole_case(), each_mark(), chain()] {
+        for end in 0..=base.len() {
+            all.push(("prefix", base[..end].to_vec()));
+        }
+        for at in 0..base.len() {
+            let mut bytes = base.clone();
+            bytes[at] ^= random.between(1, 255) as u8;
+            all.push(("changed byte", bytes));
+        }
+    }
+    all
+}

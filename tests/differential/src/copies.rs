@@ -1,0 +1,120 @@
+// Simple transfers, and a way to see memory: the listing never prints a byte of it, but the fault
+// of a descriptor prints its destination. So a word is copied there, and a wrong copy shows.
+
+use crate::maker::{
+    descriptor, Maker, CHAIN, CONTROL, COUNT, CURRENT, DESTINATION, RESET, SOURCE, TAIL,
+};
+use crate::pokes::{count_value, look, ready, run};
+use crate::shadow::MEMORY;
+
+/// One simple transfer, mostly sound.
+pub fn copy(maker: &mut Maker) {
+    ready(maker, false);
+    let value = count_value(maker);
+    let count = value & 0x7f_ffff;
+    let (source, destination) = ends(maker, count);
+    let filled = count.min(1024).min(MEMORY.saturating_sub(source));
+    if maker.random.chance(60) && filled > 0 {
+        let bytes = maker.random.bytes(filled);
+        maker.memory(source, bytes);
+    }
+    // SA and DA keep their values, so now and then one of them is left as it was.
+    if maker.random.chance(93) {
+        maker.write(SOURCE, source);
+    }
+    if maker.random.chance(93) {
+        maker.write(DESTINATION, destination);
+    }
+    maker.write(COUNT, value);
+    run(maker);
+    look(maker);
+    if maker.random.chance(35) {
+        let last = destination.wrapping_add(count.min(600));
+        for _ in 0..maker.random.between(1, 2) {
+            let word = match maker.random.below(4) {
+                0 => destination.wrapping_sub(maker.random.below(4)),
+                1 => last.wrapping_sub(maker.random.below(5)),
+                _ => destination.wrapping_add(maker.random.below(count.clamp(1, 600))),
+            };
+            peek(maker, word);
+        }
+    }
+}
+
+/// Source and destination of a copy of `count` bytes.
+fn ends(maker: &mut Maker, count: u32) -> (u32, u32) {
+    match maker.random.below(100) {
+        0..=44 => (maker.sound_place(count), maker.sound_place(count)),
+        45..=74 => {
+            // Overlapping: by few bytes or by nearly all, upward or downward.
+            let shift = if maker.random.chance(50) {
+                maker.random.between(1, 9)
+            } else {
+                maker.random.between(1, count.max(1))
+            };
+            let low = maker.sound_place(count.saturating_add(shift));
+            let high = low.wrapping_add(shift);
+            if maker.random.chance(60) {
+                (low, high)
+            } else {
+                (high, low)
+            }
+        }
+        75..=77 => {
+            let place = maker.sound_place(count);
+            (place, place)
+        }
+        78..=83 => {
+            // Over the memory's end: what lies before it stays as it was.
+            let over = MEMORY - maker.random.between(1, count.clamp(1, 40));
+            let other = maker.sound_place(count);
+            if maker.random.chance(60) {
+                (other, over)
+            } else {
+                (over, other)
+            }
+        }
+        _ => (maker.place(), maker.place()),
+    }
+}
+
+/// Shows the word at `address` as the destination of a descriptor that fails on its source.
+pub fn peek(maker: &mut Maker, address: u32) {
+    if !maker.sound(address, 4) {
+        return;
+    }
+    let place = maker.descriptor_place();
+    if !maker.sound(place, 32) || (address + 4 > place && address < place + 32) {
+        return;
+    }
+    if maker.busy() || maker.in_error() || maker.shadow.engine.sg_mode {
+        maker.write(CONTROL, RESET);
+    }
+    let fill = maker.random.u32();
+    maker.memory(place, descriptor(0, u32::MAX, 0, 1, 0, fill));
+    maker.write(SOURCE, address);
+    maker.write(DESTINATION, place + 0x10);
+    maker.write(COUNT, 4);
+    maker.steps(1);
+    maker.write(CONTROL, CHAIN);
+    maker.write(CURRENT, place);
+    maker.write(TAIL, place);
+    maker.steps(9);
+    maker.write(CONTROL, RESET);
+}
+
+/// One copy whose listing has hundreds or thousands of lines, if the settings are narrow.
+pub fn long_copy(maker: &mut Maker) {
+    maker.long = true;
+    ready(maker, false);
+    let count = maker.random.between(5_000, 16_000);
+    let source = maker.random.below(MEMORY - count);
+    let destination = maker.random.below(MEMORY - count);
+    maker.write(SOURCE, source);
+    maker.write(DESTINATION, destination);
+    maker.write(COUNT, count);
+    maker.steps(65_535);
+    look(maker);
+    peek(maker, destination + count - 4);
+    maker.long = false;
+}

@@ -1,0 +1,155 @@
+// Which trace belongs to a seed and an index.
+
+use std::sync::OnceLock;
+
+use crate::maker::Maker;
+use crate::random::Random;
+use crate::{catalogue, chains, clocks, copies, damage, pokes};
+
+/// The seed of the fixed traces.
+pub const FIXED: u64 = 1;
+
+pub const FAMILIES: [&str; 11] = [
+    "case",
+    "prefix",
+    "changed byte",
+    "deep",
+    "copies",
+    "chains",
+    "clocks",
+    "refused",
+    "damaged",
+    "noise",
+    "long",
+];
+
+/// Fixed trace number `index`: every second one from the catalogue until that is used up.
+pub fn fixed(index: u64) -> (&'static str, Vec<u8>) {
+    static CATALOGUE: OnceLock<Vec<(&'static str, Vec<u8>)>> = OnceLock::new();
+    let catalogue = CATALOGUE.get_or_init(catalogue::all);
+    if index % 2 == 1 {
+        if let Some(entry) = catalogue.get(index as usize / 2) {
+            return entry.clone();
+        }
+    }
+    generated(FIXED, index)
+}
+
+/// The trace generated from `seed` and `index`.
+pub fn generated(seed: u64, index: u64) -> (&'static str, Vec<u8>) {
+    let mut random = Random::new(seed, index);
+    let family = match random.below(100) {
+        0..=36 => "deep",
+        37..=51 => "copies",
+        52..=69 => "chains",
+        70..=77 => "clocks",
+        78..=85 => "refused",
+        86..=94 => "damaged",
+        95..=98 => "noise",
+        _ => "long",
+    };
+    (family, trace(family, random))
+}
+
+fn trace(family: &str, random: Random) -> Vec<u8> {
+    let mut maker = Maker::new(random);
+    if family == "long" {
+        let (width, beats) = maker.random.pick(&[(4, 2), (4, 2), (4, 4), (8, 2)]);
+        maker.settings(width, beats);
+    } else {
+        maker.any_settings();
+    }
+    match family {
+        "deep" => {
+            for _ in 0..maker.random.between(3, 8) {
+                play(&mut maker);
+            }
+        }
+        "copies" => {
+            for _ in 0..maker.random.between(2, 6) {
+                copies::copy(&mut maker);
+            }
+        }
+        "chains" => {
+            for _ in 0..maker.random.between(1, 4) {
+                chains::chain(&mut maker);
+            }
+        }
+        "clocks" => {
+            for _ in 0..maker.random.between(2, 8) {
+                if maker.random.chance(60) {
+                    let flag = maker.random.pick(&clocks::FLAGS);
+                    clocks::alone(&mut maker, flag);
+                } else {
+                    clocks::some(&mut maker);
+                }
+            }
+        }
+        "refused" => {
+            for _ in 0..maker.random.below(4) {
+                play(&mut maker);
+            }
+            damage::bad_end(&mut maker);
+        }
+        "damaged" => {
+            for _ in 0..maker.random.between(1, 2) {
+                play(&mut maker);
+            }
+            for _ in 0..maker.random.between(1, 2) {
+                damage::damage(&mut maker.random, &mut maker.bytes);
+            }
+        }
+        "noise" => return damage::noise(&mut maker.random),
+        _ => copies::long_copy(&mut maker),
+    }
+    if maker.random.chance(4) {
+        damage::bad_end(&mut maker);
+    }
+    maker.bytes
+}
+
+/// One scene of a trace.
+pub fn play(maker: &mut Maker) {
+    match maker.random.below(100) {
+        0..=29 => copies::copy(maker),
+        30..=62 => chains::chain(maker),
+        63..=77 => {
+            for _ in 0..maker.random.between(1, 8) {
+                pokes::poke(maker);
+            }
+            pokes::run(maker);
+        }
+        78..=89 => clocks::some(maker),
+        90..=94 => pokes::window(maker),
+        _ => pokes::memory(maker),
+    }
+}
+
+#[cfg(test)]
+mod tests {
+    use super::*;
+    use crate::record::records;
+
+    #[test]
+    fn a_seed_and_an_index_give_the_same_trace_again() {
+        for index in 0..200 {
+            assert_eq!(fixed(index), fixed(index));
+            assert_eq!(generated(77, index), generated(77, index));
+        }
+        assert_ne!(generated(77, 0).1, generated(78, 0).1);
+        assert_ne!(generated(77, 0).1, generated(77, 1).1);
+    }
+
+    #[test]
+    fn records_taken_apart_give_their_bytes_again() {
+        for index in 0..500 {
+            let (_, bytes) = generated(77, index);
+            let mut again = Vec::new();
+            for (place, sequence, record) in records(&bytes) {
+                assert_eq!(place, again.len());
+                record.encode(sequence, &mut again);
+            }
+            assert_eq!(again, bytes[..again.len()]);
+        }
+    }
+}

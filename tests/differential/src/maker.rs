@@ -1,0 +1,233 @@
+// A trace in the making. Each record is also carried out on a shadow, so that the next one can be
+// chosen with knowledge of the state.
+
+use independent::engine::Phase;
+
+use crate::random::Random;
+use crate::record::{Bus, Record};
+use crate::shadow::{idle, Shadow, MEMORY, MOST_WINDOWS};
+
+pub const WIDTHS: [u16; 6] = [4, 8, 16, 32, 64, 128];
+pub const BEATS: [u16; 8] = [2, 4, 8, 16, 32, 64, 128, 256];
+
+pub const CONTROL: u16 = 0x00;
+pub const STATUS: u16 = 0x04;
+pub const CURRENT: u16 = 0x08;
+pub const TAIL: u16 = 0x10;
+pub const SOURCE: u16 = 0x18;
+pub const DESTINATION: u16 = 0x20;
+pub const COUNT: u16 = 0x28;
+
+pub const RESET: u32 = 1 << 2;
+pub const CHAIN: u32 = 1 << 3;
+
+pub struct Maker {
+    pub random: Random,
+    pub shadow: Shadow,
+    pub bytes: Vec<u8>,
+    pub sequence: u32,
+    pub records: usize,
+    /// The most records wanted.
+    pub most: usize,
+    /// A refusal ended the replay, or nothing more is wanted or can be numbered.
+    pub ended: bool,
+    /// Sequence numbers without gaps, for long traces.
+    pub dense: bool,
+    /// Long listings are wanted.
+    pub long: bool,
+}
+
+impl Maker {
+    pub fn new(random: Random) -> Maker {
+        Maker {
+            random,
+            shadow: Shadow::fresh(),
+            bytes: Vec::new(),
+            sequence: 0,
+            records: 0,
+            most: usize::MAX,
+            ended: false,
+            dense: false,
+            long: false,
+        }
+    }
+
+    pub fn put(&mut self, record: Record) {
+        if self.ended || self.records == self.most {
+            self.ended = true;
+            return;
+        }
+        let gap = if self.dense || self.random.chance(93) { 1 } else { self.random.between(2, 30) };
+        let Some(sequence) = self.sequence.checked_add(gap) else {
+            self.ended = true;
+            return;
+        };
+        record.encode(sequence, &mut self.bytes);
+        self.sequence = sequence;
+        self.records += 1;
+        self.ended = self.shadow.apply(&record, &mut |_| ()) != 0;
+    }
+
+    pub fn settings(&mut self, width: u16, beats: u16) {
+        self.put(Record::Settings { width, beats });
+    }
+
+    /// A CF with one of the 48 settings, or none.
+    pub fn any_settings(&mut self) {
+        if self.random.chance(85) {
+            let (width, beats) = (self.random.pick(&WIDTHS), self.random.pick(&BEATS));
+            self.settings(width, beats);
+        }
+    }
+
+    pub fn memory(&mut self, address: u32, bytes: Vec<u8>) {
+        self.put(Record::Memory { address, bytes });
+    }
+
+    /// A window, as long as there is room for one: the seventeenth ends the replay.
+    pub fn window(&mut self, start: u32, length: u32) {
+        if self.shadow.windows.len() < MOST_WINDOWS {
+            self.put(Record::Window { start, length });
+        }
+    }
+
+    pub fn write(&mut self, offset: u16, value: u32) {
+        self.put(Record::Write { offset, value });
+    }
+
+    pub fn read(&mut self, offset: u16) {
+        self.put(Record::Read { offset });
+    }
+
+    pub fn steps(&mut self, steps: u16) {
+        self.put(Record::Steps { steps });
+    }
+
+    pub fn bus(&mut self, bus: Bus) {
+        self.put(Record::Bus(bus));
+    }
+
+    pub fn busy(&self) -> bool {
+        !idle(&self.shadow.engine)
+    }
+
+    pub fn in_error(&self) -> bool {
+        crate::shadow::in_error(&self.shadow.engine)
+    }
+
+    /// Bytes of a full burst.
+    pub fn unit(&self) -> u32 {
+        (self.shadow.engine.width * self.shadow.engine.beats).min(4096)
+    }
+
+    pub fn around(&mut self, centre: u32, reach: u32) -> u32 {
+        let shift = self.random.below(2 * reach + 1);
+        centre.wrapping_add(shift).wrapping_sub(reach)
+    }
+
+    /// Is the range memory, and free of windows?
+    pub fn sound(&self, start: u32, count: u32) -> bool {
+        let (from, to) = (u64::from(start), u64::from(start) + u64::from(count));
+        to <= u64::from(MEMORY)
+            && self.shadow.windows.iter().all(|&(sick, size)| {
+                let sick = u64::from(sick);
+                to <= sick || sick + u64::from(size) <= from
+            })
+    }
+
+    /// Any address, with a liking for edges.
+    pub fn place(&mut self) -> u32 {
+        let unit = self.unit();
+        match self.random.below(100) {
+            0..=39 => self.random.below(MEMORY),
+            40..=59 => {
+                let page = self.random.between(1, 7) * 4096;
+                self.around(page, unit.min(300))
+            }
+            60..=69 => {
+                let word = self.random.below(MEMORY) & !(self.shadow.engine.width - 1);
+                self.around(word, 2)
+            }
+            70..=79 => self.around(MEMORY, 80),
+            80..=84 => u32::MAX - self.random.below(200),
+            85..=92 if !self.shadow.windows.is_empty() => {
+                let (start, length) = self.random.pick(&self.shadow.windows);
+                let edge = if self.random.chance(50) { start } else { start.wrapping_add(length) };
+                self.around(edge, 40)
+            }
+            93..=96 => {
+                let descriptor = self.shadow.engine.current;
+                self.around(descriptor, 40)
+            }
+            _ => self.random.u32(),
+        }
+    }
+
+    /// A count of a transfer, measured in bursts so that listings stay small.
+    pub fn count(&mut self) -> u32 {
+        let (unit, width) = (self.unit(), self.shadow.engine.width);
+        match self.random.below(100) {
+            0..=24 => self.random.between(1, width),
+            25..=44 => self.around(unit, 3),
+            45..=64 => self.random.between(1, 3 * unit),
+            65..=84 => self.random.between(1, 8) * unit.min(512) + self.random.below(width),
+            85..=94 => self.random.between(1, 700.min(12 * unit)),
+            95..=97 => self.random.between(1, 12 * unit),
+            98 => 8_388_607 - self.random.below(3),
+            _ => self.random.between(1, 8_388_607),
+        }
+    }
+
+    /// A start in sound memory for `count` bytes, if a few tries find one.
+    pub fn sound_place(&mut self, count: u32) -> u32 {
+        let mut place = 0;
+        for _ in 0..8 {
+            place = self.place();
+            if self.sound(place, count) {
+                return place;
+            }
+        }
+        if count < MEMORY {
+            place = self.random.below(MEMORY - count);
+        }
+        place
+    }
+
+    /// A multiple of 64 whose 32 bytes are sound, if a few tries find one.
+    pub fn descriptor_place(&mut self) -> u32 {
+        let mut place = 0;
+        for _ in 0..8 {
+            place = self.random.below(MEMORY / 64) * 64;
+            if self.sound(place, 32) {
+                break;
+            }
+        }
+        place
+    }
+
+    /// About how many steps the engine still has before it: a guess, which keeps listings small.
+    pub fn steps_ahead(&self) -> u32 {
+        match self.shadow.engine.phase {
+            Phase::Idle => 0,
+            Phase::Fetch => 10,
+            Phase::Update(_) => 1,
+            Phase::Move { destination, total, moved, .. } => {
+                let to = destination + moved;
+                (total - moved).min(MEMORY.saturating_sub(to)) / self.unit() + 2
+            }
+        }
+    }
+}
+
+/// The 32 bytes of a descriptor, its unused words filled with `fill`.
+pub fn descriptor(
+    next: u32,
+    source: u32,
+    destination: u32,
+    control: u32,
+    status: u32,
+    fill: u32,
+) -> Vec<u8> {
+    let words = [next, fill, source, fill, destination, fill, control, status];
+    words.iter().flat_map(|word| word.to_le_bytes()).collect()
+}

@@ -1,0 +1,321 @@
+// Counts what one trace did: the words, answers and bits from the independent listing, all that a
+// listing does not show from a shadow taken along the same records.
+
+use independent::answer::settings_listed;
+use independent::engine::{Engine, Phase};
+use independent::monitor::Clock;
+
+use crate::coverage::{Coverage, WORDS};
+use crate::maker::{BEATS, WIDTHS};
+use crate::observe_steps::{one_step, Memo};
+use crate::record::{decode, Bus, Cause, Record};
+use crate::shadow::{idle, in_error, state, Shadow, MEMORY, MOST_WINDOWS};
+
+const TOP: u64 = 1 << 32;
+
+pub fn observe(trace: &[u8], listing: &[u8], coverage: &mut Coverage) {
+    let printed = count_lines(listing, coverage);
+    let seen = follow(trace, coverage);
+    // The shadow went another way than the replay: then its counts mean nothing.
+    assert_eq!(printed, seen, "the coverage shadow lost the replay");
+}
+
+/// Counts the listing's lines and gives their number.
+fn count_lines(listing: &[u8], coverage: &mut Coverage) -> usize {
+    let text = String::from_utf8_lossy(listing);
+    let mut lines = 0;
+    for line in text.lines().skip(1) {
+        lines += 1;
+        let mut parts = line.split(' ').skip(1);
+        let word = parts.next().unwrap_or("");
+        let mut number = || parts.next().and_then(|part| part.parse().ok()).unwrap_or(0u32);
+        let (first, second) = (number(), number());
+        if let Some(at) = WORDS.iter().position(|known| *known == word) {
+            coverage.words[at] += 1;
+        }
+        match word {
+            "write" | "noread" => coverage.number("answer", second),
+            "bad" => coverage.number("answer", first),
+            "fault" => coverage.number("fault bit", second),
+            "halt" => coverage.number("halt bit", second),
+            "update" => coverage.number("update word bit", second.trailing_zeros()),
+            "read" if first == 4 => {
+                for bit in [1, 4, 5, 6, 8, 9, 10, 12, 14] {
+                    let up = second >> bit & 1 == 1;
+                    let group = if up { "CDMASR bit read as 1" } else { "CDMASR bit read as 0" };
+                    coverage.number(group, bit);
+                }
+            }
+            "bus" if second != 0 => coverage.number("flag lowest", second),
+            _ => {}
+        }
+    }
+    lines
+}
+
+/// Follows the trace on a shadow and gives the number of lines it prints.
+fn follow(trace: &[u8], coverage: &mut Coverage) -> usize {
+    let mut shadow = Shadow::fresh();
+    let mut memo = Memo::new();
+    coverage.see_if(trace.is_empty(), "empty trace");
+    coverage.see_if(!trace.is_empty() && !trace.starts_with(b"CF"), "trace without CF");
+    let (mut place, mut last, mut lines) = (0, 0, 0);
+    while place < trace.len() {
+        let (sequence, record, next) = match decode(trace, place) {
+            Ok(read) => read,
+            Err(cause) => {
+                unreadable(&trace[place..], last, cause, coverage);
+                return lines + 1;
+            }
+        };
+        if sequence <= last {
+            old_number(&shadow, &record, sequence, last, coverage);
+            coverage.see_if(next < trace.len(), "records after a bad one");
+            return lines + 1;
+        }
+        before(&shadow, &record, &mut memo, coverage);
+        let flags = shadow.monitor.flags;
+        let held = shadow.monitor.before;
+        let mut steps = 0;
+        let answer = shadow.apply(&record, &mut |step| {
+            steps += 1;
+            one_step(&step, &mut memo, coverage);
+        });
+        lines += 1 + steps;
+        match &record {
+            Record::Steps { steps: most } => run(&shadow, steps, usize::from(*most), coverage),
+            Record::Bus(bus) if answer == 0 => {
+                let now = shadow.monitor.flags;
+                for flag in (0..64).filter(|flag| now & !flags & 1 << flag != 0) {
+                    coverage.number("flag raised", flag);
+                }
+                clock(bus, &held, flags, now, coverage);
+            }
+            _ => {}
+        }
+        if answer != 0 {
+            coverage.see_if(next < trace.len(), "records after a bad one");
+            return lines;
+        }
+        coverage.see_if(sequence == u32::MAX, "number 4294967295");
+        last = sequence;
+        place = next;
+    }
+    lines
+}
+
+/// A record that gets answer 10.
+fn unreadable(rest: &[u8], last: u32, cause: Cause, coverage: &mut Coverage) {
+    coverage.see(match cause {
+        Cause::CutInHead => "cut in a head",
+        Cause::CutInBody => "cut in a body",
+        Cause::UnknownMark => "unknown mark",
+        Cause::NoLength => "MM of no bytes",
+        Cause::TooLong => "MM of more than 1,024 bytes",
+        Cause::LateSettings => "late CF",
+    });
+    coverage.see_if(rest.len() == 1, "one byte left over");
+    if rest.len() >= 6 {
+        let sequence = u32::from_le_bytes([rest[2], rest[3], rest[4], rest[5]]);
+        coverage.see_if(sequence <= last, "old number beside answer 10");
+    }
+}
+
+/// A record that gets answer 11.
+fn old_number(shadow: &Shadow, record: &Record, sequence: u32, last: u32, coverage: &mut Coverage) {
+    coverage.see_if(sequence == 0, "number of zero");
+    coverage.see_if(sequence == last && last != 0, "number repeated");
+    coverage.see_if(sequence < last, "number falling");
+    let own = match record {
+        Record::Settings { width, beats } => !settings_listed(u32::from(*width), u32::from(*beats)),
+        Record::Memory { address, bytes } => past_end(*address, bytes) > 0,
+        Record::Window { .. } => shadow.windows.len() == MOST_WINDOWS,
+        Record::Write { offset, .. } | Record::Read { offset } => no_register(*offset),
+        Record::Steps { .. } => false,
+        Record::Bus(bus) => !fields_out(bus).is_empty(),
+    };
+    coverage.see_if(own, "old number beside the record's own answer");
+}
+
+fn no_register(offset: u16) -> bool {
+    !offset.is_multiple_of(4) || offset > 40
+}
+
+/// How many of the bytes lie past the memory's end, by the place of the last.
+fn past_end(address: u32, bytes: &[u8]) -> u64 {
+    (u64::from(address) + bytes.len() as u64).saturating_sub(u64::from(MEMORY))
+}
+
+fn fields_out(bus: &Bus) -> Vec<&'static str> {
+    let all = [
+        (bus.bits > 7, "AR refused for its bits"),
+        (bus.size > 7, "AR refused for its size"),
+        (bus.burst > 3, "AR refused for its burst"),
+        (bus.cache > 15, "AR refused for its cache"),
+        (bus.prot > 7, "AR refused for its prot"),
+        (bus.qos > 15, "AR refused for its qos"),
+        (bus.region > 15, "AR refused for its region"),
+    ];
+    all.iter().filter(|(out, _)| *out).map(|(_, name)| *name).collect()
+}
+
+/// A record with a good number, before it is carried out.
+fn before(shadow: &Shadow, record: &Record, memo: &mut Memo, coverage: &mut Coverage) {
+    let engine = &shadow.engine;
+    let busy = !idle(engine);
+    match record {
+        Record::Settings { width, beats } => {
+            coverage.see_if(!WIDTHS.contains(width), "CF of bad width");
+            coverage.see_if(!BEATS.contains(beats), "CF of bad beats");
+        }
+        Record::Memory { address, bytes } => {
+            let past = past_end(*address, bytes);
+            coverage.see_if(bytes.len() == 1024 && past == 0, "MM of 1,024 bytes");
+            let end = *address as usize + bytes.len();
+            coverage.see_if(end == MEMORY as usize, "MM up to the memory's end");
+            coverage.see_if(past == 1, "MM one byte past the memory's end");
+            coverage.see_if(past > 1024, "MM far past the memory's end");
+            if past == 0 {
+                memo.copied[*address as usize..end].fill(false);
+                coverage.see_if(busy, "memory put in the midst of a transfer");
+                let fetched = matches!(engine.phase, Phase::Move { .. } | Phase::Update(_));
+                let current = engine.current as usize;
+                let over = end > current && (*address as usize) < current + 32;
+                let over = fetched && engine.sg_mode && over;
+                coverage.see_if(over, "memory put over a fetched descriptor");
+            }
+        }
+        Record::Window { start, length } => {
+            let end = u64::from(*start) + u64::from(*length);
+            let over = u64::from(*start) < u64::from(MEMORY) && end > u64::from(MEMORY);
+            coverage.see_if(over, "window past the memory's end");
+            coverage.see_if(busy, "window added in the midst of a transfer");
+            coverage.see_if(shadow.windows.len() + 1 == MOST_WINDOWS, "sixteen windows");
+        }
+        Record::Write { offset, value } => {
+            let row = if no_register(*offset) { 11 } else { usize::from(*offset) / 4 };
+            coverage.writes[row][state(engine) as usize] += 1;
+            register_write(engine, *offset, *value, memo, coverage);
+        }
+        Record::Read { offset } => {
+            let row = if no_register(*offset) { 11 } else { usize::from(*offset) / 4 };
+            coverage.reads[row][state(engine) as usize] += 1;
+        }
+        Record::Steps { .. } => {}
+        Record::Bus(bus) => {
+            let out = fields_out(bus);
+            coverage.see_if(!out.is_empty() && bus.bits & 1 == 0, "AR refused in reset");
+            coverage.see_if(!out.is_empty() && bus.bits & 2 == 0, "AR refused with valid low");
+            for name in out {
+                coverage.see(name);
+            }
+        }
+    }
+}
+
+fn register_write(
+    engine: &Engine,
+    offset: u16,
+    value: u32,
+    memo: &mut Memo,
+    coverage: &mut Coverage,
+) {
+    let busy = !idle(engine);
+    let mut after = engine.clone();
+    let answer = after.write(u32::from(offset), value);
+    match offset {
+        0x00 if value & 4 != 0 => {
+            reset(engine, coverage);
+            memo.at_tail = false;
+            memo.restart = false;
+            memo.old_tail = None;
+        }
+        0x00 => {
+            coverage.see_if(answer == 4, "mode change refused while busy");
+            coverage.see_if(busy && after != *engine, "enables written while busy");
+            memo.mode_changed |= after.sg_mode != engine.sg_mode;
+        }
+        0x04 => {
+            coverage.see_if(engine.ioc_irq && !after.ioc_irq, "IOC_Irq cleared");
+            let cleared = engine.err_irq && !after.err_irq;
+            coverage.see_if(cleared, "Err_Irq cleared");
+            let left = cleared && in_error(&after);
+            coverage.see_if(left, "Err_Irq cleared with the error bit left");
+        }
+        0x08 if answer == 0 => memo.at_tail = false,
+        0x10 if answer == 0 && busy && after.tail != engine.tail => {
+            memo.old_tail = Some(engine.tail);
+            coverage.see(match engine.phase {
+                Phase::Fetch => "tail replaced before a fetch",
+                Phase::Update(_) => "tail replaced before an update",
+                _ => "tail replaced before a burst",
+            });
+        }
+        0x10 if answer == 0 && !busy => {
+            memo.restart = memo.at_tail;
+            memo.old_tail = None;
+            memo.descriptors = 0;
+        }
+        0x28 if answer == 0 => {
+            let high = value > 0x7f_ffff;
+            let zero = value & 0x7f_ffff == 0;
+            coverage.see_if(zero && !high, "BTT of zero");
+            coverage.see_if(zero && high, "BTT of zero with bits above 22");
+            coverage.see_if(!zero && high, "BTT with bits above 22");
+        }
+        _ => {}
+    }
+}
+
+fn reset(engine: &Engine, coverage: &mut Coverage) {
+    coverage.see(match (engine.phase, engine.sg_mode) {
+        (Phase::Idle, _) if in_error(engine) => "reset in error",
+        (Phase::Idle, _) => "reset when idle",
+        (Phase::Fetch, _) => "reset before a fetch",
+        (Phase::Update(_), _) => "reset before an update",
+        (Phase::Move { .. }, false) => "reset in a simple transfer",
+        (Phase::Move { .. }, true) => "reset in a chain transfer",
+    });
+    let written = matches!(engine.phase, Phase::Move { moved: 1.., .. });
+    coverage.see_if(written, "reset after a written burst");
+}
+
+fn run(shadow: &Shadow, steps: usize, most: usize, coverage: &mut Coverage) {
+    let busy = !idle(&shadow.engine);
+    coverage.see_if(most == 0, "run of no steps");
+    coverage.see_if(most > 0 && steps == 0, "run on an idle engine");
+    coverage.see_if(busy && steps > 0, "run stopped in the midst of a transfer");
+    coverage.see_if(!busy && steps > 0 && steps == most, "run that ends with its last step");
+    coverage.see_if(!busy && steps > 0 && steps < most, "run that ends before its last step");
+    coverage.see_if(steps >= 500, "run of five hundred steps or more");
+    coverage.see_if(busy && steps == 65_535, "run stopped after 65,535 steps");
+}
+
+/// A good clock after `held`, with the flags before and after it.
+fn clock(bus: &Bus, held: &Clock, flags: u64, now: u64, coverage: &mut Coverage) {
+    let clock = bus.clock();
+    coverage.see_if(!clock.reset_high && flags != 0, "flags cleared by reset");
+    coverage.see_if(now.count_ones() >= 6, "six flags or more");
+    if !clock.reset_high {
+        return;
+    }
+    if clock.valid && clock.burst == 1 {
+        let word = 1u64 << clock.size;
+        let total = (u64::from(clock.length) + 1) * word;
+        let end = u64::from(clock.address) / word * word + total;
+        let page = u64::from(clock.address) / 4096;
+        let at_end = end.is_multiple_of(4096) && (end - 1) / 4096 == page;
+        coverage.see_if(at_end, "last byte of a burst at the page's end");
+        coverage.see_if(end > TOP, "last byte of a burst past 2^32");
+    }
+    let compared = held.reset_high && held.valid;
+    let mut same = clock;
+    same.ready = held.ready;
+    coverage.see_if(compared && !held.ready && clock == *held, "clock held unchanged");
+    let ready = compared && !held.ready && same == *held && clock != *held;
+    coverage.see_if(ready, "ready alone changed");
+    coverage.see_if(compared && held.ready && same != *held, "change after ready");
+    same.valid = true;
+    let drops = compared && !held.ready && !clock.valid && same != *held;
+    coverage.see_if(drops, "change as valid drops");
+}

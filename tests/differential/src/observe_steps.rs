@@ -1,0 +1,215 @@
+// Counts what the steps of a run did.
+
+use independent::engine::{Engine, Event, Phase};
+use independent::memory::Window;
+
+use crate::coverage::Coverage;
+use crate::maker::{BEATS, WIDTHS};
+use crate::shadow::{idle, Step, MEMORY, MOST_WINDOWS};
+
+const TOP: u64 = 1 << 32;
+
+/// What is remembered of a trace from record to record.
+pub struct Memo {
+    /// The last good update ended at the tail, and next was not set since.
+    pub at_tail: bool,
+    pub mode_changed: bool,
+    /// The next fetch is that of a restart.
+    pub restart: bool,
+    /// The tail that was replaced while busy.
+    pub old_tail: Option<u32>,
+    pub descriptors: u32,
+    /// Bytes of memory written last by a burst.
+    pub copied: Vec<bool>,
+    /// The destination of the fetched descriptor was such a word.
+    shown: bool,
+}
+
+impl Memo {
+    pub fn new() -> Memo {
+        Memo {
+            at_tail: false,
+            mode_changed: false,
+            restart: false,
+            old_tail: None,
+            descriptors: 0,
+            copied: vec![false; MEMORY as usize],
+            shown: false,
+        }
+    }
+}
+
+/// Does a window share a byte with the range?
+fn touches(windows: &[Window], start: u32, count: u32) -> bool {
+    let (from, to) = (u64::from(start), u64::from(start) + u64::from(count));
+    windows.iter().any(|&(sick, size)| {
+        let sick = u64::from(sick);
+        size > 0 && sick < to && from < sick + u64::from(size)
+    })
+}
+
+/// Counts one step.
+pub fn one_step(step: &Step, memo: &mut Memo, coverage: &mut Coverage) {
+    match step.event {
+        Event::None => {}
+        Event::Fetch { current } => fetched(step, current, memo, coverage),
+        Event::Halt { current, bit } => halted(step, current, bit, memo, coverage),
+        Event::Move { start, bytes } => moved(step, start, bytes, memo, coverage),
+        Event::Fault { .. } => failed(step, memo, coverage),
+        Event::Update { current, word } => updated(step, current, word, memo, coverage),
+    }
+}
+
+fn fetched(step: &Step, current: u32, memo: &mut Memo, coverage: &mut Coverage) {
+    let at = current as usize;
+    let word = |place: usize| {
+        let bytes = &step.memory[at + place..at + place + 4];
+        u32::from_le_bytes([bytes[0], bytes[1], bytes[2], bytes[3]])
+    };
+    if memo.restart {
+        coverage.see("restart after the tail");
+        coverage.see_if(memo.mode_changed, "restart after the tail with a change of mode between");
+        memo.restart = false;
+    }
+    memo.mode_changed = false;
+    memo.at_tail = false;
+    memo.shown = memo.copied[at + 0x10..at + 0x14].iter().all(|copied| *copied);
+    coverage.see_if(current == MEMORY - 64, "descriptor in the last place of memory");
+    coverage.see_if(word(0x1c) != 0, "status bits below 31 at a good fetch");
+    coverage.see_if(step.after.held_next == current, "next pointer to the descriptor itself");
+    if word(0x18) & 0x7f_ffff == 0 {
+        coverage.see("count of zero in a descriptor");
+        coverage.see_if(word(0x18) != 0, "count of zero with other control bits");
+    }
+}
+
+fn halted(step: &Step, current: u32, bit: u32, memo: &mut Memo, coverage: &mut Coverage) {
+    memo.restart = false;
+    memo.at_tail = false;
+    let status = touches(step.windows, current + 0x1c, 4);
+    match (step.before.phase, bit) {
+        (Phase::Fetch, 8) => coverage.see("stale descriptor"),
+        (Phase::Fetch, 9) => {
+            let upper = touches(step.windows, current, 0x1c);
+            coverage.see_if(upper, "window over the descriptor");
+            coverage.see_if(status && !upper, "window over the status word at a fetch");
+        }
+        (Phase::Fetch, _) => coverage.see("descriptor past the memory's end"),
+        _ => coverage.see("window over the status word at an update"),
+    }
+}
+
+/// Source, destination, bytes ahead and bytes moved of the transfer before the step.
+fn transfer(engine: &Engine) -> (u32, u32, u32, u32) {
+    match engine.phase {
+        Phase::Move { source, destination, total, moved } => {
+            (source + moved, destination + moved, total - moved, moved)
+        }
+        _ => unreachable!("a burst without a transfer"),
+    }
+}
+
+fn moved(step: &Step, to: u32, bytes: u32, memo: &mut Memo, coverage: &mut Coverage) {
+    let (from, _, left, _) = transfer(step.before);
+    let (width, beats) = (step.before.width, step.before.beats);
+    memo.copied[to as usize..(to + bytes) as usize].fill(true);
+    if bytes < left {
+        let row = WIDTHS.iter().position(|one| u32::from(*one) == width).unwrap_or(0);
+        let column = BEATS.iter().position(|one| u32::from(*one) == beats).unwrap_or(0);
+        coverage.cuts[row][column] += 1;
+        let page = (to + bytes).is_multiple_of(4096);
+        coverage.see(if page { "burst ended by the page" } else { "burst ended by the beats" });
+        let within = !to.is_multiple_of(width) && !page;
+        coverage.see_if(within, "burst from within a word ended by the beats");
+    } else {
+        coverage.see("burst ended by the count");
+    }
+    coverage.see_if(from / 4096 != (from + bytes - 1) / 4096, "source crossing a page in a burst");
+    coverage.see_if(from < to && to < from + bytes, "burst overlapping upward");
+    coverage.see_if(to < from && from < to + bytes, "burst overlapping downward");
+    coverage.see_if(from == to, "burst onto itself");
+    let more = bytes < left;
+    let up = more && from < to && to - from < left;
+    coverage.see_if(up, "transfer overlapping upward over bursts");
+    let down = more && to < from && from - to < left;
+    coverage.see_if(down, "transfer overlapping downward over bursts");
+    coverage.see_if(to + bytes == MEMORY || from + bytes == MEMORY, "burst up to the memory's end");
+    for &(sick, size) in step.windows {
+        let end = u64::from(sick) + u64::from(size);
+        let ends = [(from, from + bytes), (to, to + bytes)];
+        for (low, high) in ends {
+            let below = size > 0 && end == u64::from(low);
+            coverage.see_if(below, "window touching a good burst from below");
+            coverage.see_if(size > 0 && sick == high, "window touching a good burst from above");
+            let inside = size == 0 && low < sick && sick < high;
+            coverage.see_if(inside, "empty window inside a good burst");
+        }
+    }
+    if step.before.sg_mode {
+        let over = |place: u32| to < place.saturating_add(32) && place < to + bytes;
+        coverage.see_if(over(step.before.current), "burst over its own descriptor");
+        let next = step.before.held_next;
+        let next = next != step.before.current && over(next);
+        coverage.see_if(next, "burst over the next descriptor");
+    }
+}
+
+fn failed(step: &Step, memo: &Memo, coverage: &mut Coverage) {
+    let (from, to, left, done) = transfer(step.before);
+    let reach = burst(step.before, to, left);
+    let past = |start: u32| u64::from(start) + u64::from(reach) > u64::from(MEMORY);
+    let (sick_from, sick_to) =
+        (touches(step.windows, from, reach), touches(step.windows, to, reach));
+    coverage.see_if(done > 0, "fault after a written burst");
+    coverage.see_if(past(from), "source past the memory's end");
+    coverage.see_if(past(to), "destination past the memory's end");
+    coverage.see_if(u64::from(from) + u64::from(reach) > TOP, "source at the top of 2^32");
+    coverage.see_if(u64::from(to) + u64::from(left) > TOP, "destination at the top of 2^32");
+    let far = step.windows.iter().any(|&(sick, size)| {
+        let past_top = u64::from(sick) + u64::from(size) > TOP;
+        past_top && (touches(&[(sick, size)], from, reach) || touches(&[(sick, size)], to, reach))
+    });
+    coverage.see_if(far, "window past 2^32 over a burst");
+    let first = &step.windows[..step.windows.len().min(MOST_WINDOWS - 1)];
+    let last = !touches(first, from, reach) && !touches(first, to, reach);
+    let ended = past(from) || past(to);
+    let decides = last && !ended && step.windows.len() == MOST_WINDOWS;
+    coverage.see_if(decides, "sixteenth window alone decides");
+    coverage.see_if(ended && (sick_from || sick_to), "window and memory's end in one burst");
+    if !ended {
+        coverage.see(match (sick_from, sick_to) {
+            (true, true) => "window over source and destination",
+            (true, false) => "window over the source",
+            _ => "window over the destination",
+        });
+    }
+    let word = step.before.sg_mode && done == 0 && memo.shown;
+    coverage.see_if(word, "copied word shown by a fault line");
+}
+
+/// Bytes of the first burst of what remains, reckoned in its page so that nothing passes 2^32.
+fn burst(engine: &Engine, to: u32, left: u32) -> u32 {
+    let place = to % 4096;
+    let reach = place - place % engine.width + engine.width * engine.beats;
+    left.min(reach.min(4096) - place)
+}
+
+fn updated(step: &Step, current: u32, word: u32, memo: &mut Memo, coverage: &mut Coverage) {
+    if word != 0x8000_0000 {
+        memo.at_tail = false;
+        return;
+    }
+    memo.copied[current as usize + 0x1c..current as usize + 0x20].fill(false);
+    memo.descriptors += 1;
+    if idle(step.after) {
+        memo.at_tail = true;
+        memo.mode_changed = false;
+        coverage.see_if(memo.old_tail.is_some(), "chain ended at its new tail");
+        memo.old_tail = None;
+    } else {
+        coverage.see("chain of more than one descriptor");
+        coverage.see_if(memo.descriptors == 3, "chain of four descriptors or more");
+        let past = memo.old_tail == Some(current);
+        coverage.see_if(past, "chain went on past a replaced tail");
+    }
+}

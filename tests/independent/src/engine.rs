@@ -1,0 +1,513 @@
+// The engine: its state, registers, descriptor steps and runs.
+// From document 01, "Numbered answers" (order, well formed), "Registers" and "Descriptor and steps".
+
+use crate::answer;
+use crate::cut;
+use crate::memory::{self, Verdict, Window};
+
+/// How a chain transfer ended, while it waits for its update.
+#[derive(Clone, Copy, Debug, PartialEq, Eq)]
+pub enum Outcome {
+    Complete,
+    Internal,
+    Slave,
+    Decode,
+}
+
+/// What the next step does.
+#[derive(Clone, Copy, Debug, PartialEq, Eq)]
+pub enum Phase {
+    Idle,
+    Fetch,
+    Move { source: u32, destination: u32, total: u32, moved: u32 },
+    Update(Outcome),
+}
+
+/// What one step did. Bits are CDMASR bit numbers, `current` is that before the step.
+#[derive(Clone, Copy, Debug, PartialEq, Eq)]
+pub enum Event {
+    None,
+    Fetch { current: u32 },
+    Move { start: u32, bytes: u32 },
+    Fault { destination: u32, bit: u32 },
+    Update { current: u32, word: u32 },
+    Halt { current: u32, bit: u32 },
+}
+
+#[derive(Clone, Debug, PartialEq, Eq)]
+pub struct Engine {
+    pub width: u32,
+    pub beats: u32,
+    pub sg_mode: bool,
+    pub ioc_enable: bool,
+    pub err_enable: bool,
+    pub dma_int_err: bool,
+    pub dma_slv_err: bool,
+    pub dma_dec_err: bool,
+    pub sg_int_err: bool,
+    pub sg_slv_err: bool,
+    pub sg_dec_err: bool,
+    pub ioc_irq: bool,
+    pub err_irq: bool,
+    pub current: u32,
+    pub tail: u32,
+    pub next: u32,
+    pub held_next: u32,
+    pub sa: u32,
+    pub da: u32,
+    pub btt: u32,
+    pub phase: Phase,
+}
+
+// Bit numbers of CDMACR.
+const RESET: u32 = 2;
+const SG_MODE: u32 = 3;
+// Bit numbers of CDMASR.
+const IDLE: u32 = 1;
+const SG_INCLUDED: u32 = 3;
+const DMA_INT_ERR: u32 = 4;
+const DMA_SLV_ERR: u32 = 5;
+const DMA_DEC_ERR: u32 = 6;
+const SG_INT_ERR: u32 = 8;
+const SG_SLV_ERR: u32 = 9;
+const SG_DEC_ERR: u32 = 10;
+// Bit numbers of both: the interrupt or its enable.
+const IOC: u32 = 12;
+const ERR: u32 = 14;
+// Bits 23..16 of both, which read 1 as a field, and bit 1 of CDMACR.
+const THRESHOLD: u32 = 1 << 16;
+const TAIL_ENABLE: u32 = 1 << 1;
+
+// Reading: BTT is 23 bits wide, in the register and in the descriptor.
+const BTT_BITS: u32 = cut::LONGEST;
+// The low six bits of a pointer are dropped. Reading: descriptors at multiples of 64.
+const POINTER_BITS: u32 = !63;
+const DESCRIPTOR: usize = 32;
+const STATUS: u32 = 0x1c;
+
+#[inline]
+fn bit(word: u32, number: u32) -> bool {
+    word >> number & 1 == 1
+}
+
+#[inline]
+fn word(bytes: &[u8; DESCRIPTOR], at: usize) -> u32 {
+    u32::from_le_bytes([bytes[at], bytes[at + 1], bytes[at + 2], bytes[at + 3]])
+}
+
+impl Engine {
+    /// A fresh engine: simple mode, idle, all else 0.
+    /// Reading: made with any settings; the first call on it answers 1 where they are off the lists.
+    pub fn fresh(width: u32, beats: u32) -> Engine {
+        Engine {
+            width,
+            beats,
+            sg_mode: false,
+            ioc_enable: false,
+            err_enable: false,
+            dma_int_err: false,
+            dma_slv_err: false,
+            dma_dec_err: false,
+            sg_int_err: false,
+            sg_slv_err: false,
+            sg_dec_err: false,
+            ioc_irq: false,
+            err_irq: false,
+            current: 0,
+            tail: 0,
+            next: 0,
+            held_next: 0,
+            sa: 0,
+            da: 0,
+            btt: 0,
+            phase: Phase::Idle,
+        }
+    }
+
+    /// Reading: an error bit is CDMASR 4, 5, 6, 8, 9 or 10; Err_Irq is none.
+    #[inline]
+    fn in_error(&self) -> bool {
+        self.dma_int_err
+            | self.dma_slv_err
+            | self.dma_dec_err
+            | self.sg_int_err
+            | self.sg_slv_err
+            | self.sg_dec_err
+    }
+
+    /// Reading: busy is phase not idle.
+    #[inline]
+    pub(crate) fn idle(&self) -> bool {
+        matches!(self.phase, Phase::Idle)
+    }
+
+    pub fn well_formed(&self) -> bool {
+        if (self.current | self.tail | self.next | self.held_next) & !POINTER_BITS != 0 {
+            return false;
+        }
+        if self.btt > cut::LONGEST {
+            return false;
+        }
+        if self.in_error() && !self.idle() {
+            return false;
+        }
+        match self.phase {
+            Phase::Idle => true,
+            Phase::Fetch | Phase::Update(_) => self.sg_mode,
+            Phase::Move { source, destination, total, moved } => {
+                moved < total
+                    && total <= cut::LONGEST
+                    && source.checked_add(moved).is_some()
+                    && destination.checked_add(moved).is_some()
+            }
+        }
+    }
+
+    /// The refusals 1, 9, 3 which a read and a write share.
+    #[inline]
+    fn admit_access(&self, offset: u32) -> u32 {
+        if !answer::settings_listed(self.width, self.beats) {
+            answer::SETTINGS
+        } else if !self.well_formed() {
+            // Reading: a bad offset on a state not well formed is 9, and Reset does not rescue it.
+            answer::STATE
+        } else if offset > 0x28 || offset & 3 != 0 {
+            answer::OFFSET
+        } else {
+            answer::DONE
+        }
+    }
+
+    /// The refusals 1, 2, 6, 9 of a step or a run.
+    /// Reading: they come before "idle: nothing"; exactly 16,777,216 bytes and none are allowed.
+    #[inline]
+    pub(crate) fn admit_steps(&self, memory: usize, windows: usize) -> u32 {
+        if !answer::settings_listed(self.width, self.beats) {
+            answer::SETTINGS
+        } else if memory > memory::LONGEST {
+            answer::MEMORY
+        } else if windows > memory::MOST_WINDOWS {
+            answer::WINDOWS
+        } else if !self.well_formed() {
+            answer::STATE
+        } else {
+            answer::DONE
+        }
+    }
+
+    fn control_word(&self) -> u32 {
+        TAIL_ENABLE
+            | THRESHOLD
+            | u32::from(self.sg_mode) << SG_MODE
+            | u32::from(self.ioc_enable) << IOC
+            | u32::from(self.err_enable) << ERR
+    }
+
+    fn status_word(&self) -> u32 {
+        THRESHOLD
+            | 1 << SG_INCLUDED
+            | u32::from(self.idle()) << IDLE
+            | u32::from(self.dma_int_err) << DMA_INT_ERR
+            | u32::from(self.dma_slv_err) << DMA_SLV_ERR
+            | u32::from(self.dma_dec_err) << DMA_DEC_ERR
+            | u32::from(self.sg_int_err) << SG_INT_ERR
+            | u32::from(self.sg_slv_err) << SG_SLV_ERR
+            | u32::from(self.sg_dec_err) << SG_DEC_ERR
+            | u32::from(self.ioc_irq) << IOC
+            | u32::from(self.err_irq) << ERR
+    }
+
+    /// Reads a register: the answer and the value (0 beside every answer but 0).
+    pub fn read(&self, offset: u32) -> (u32, u32) {
+        let answer = self.admit_access(offset);
+        if answer != answer::DONE {
+            return (answer, 0);
+        }
+        let value = match offset {
+            0x00 => self.control_word(),
+            0x04 => self.status_word(),
+            0x08 => self.current,
+            0x10 => self.tail,
+            0x18 => self.sa,
+            0x20 => self.da,
+            0x28 => self.btt,
+            _ => 0, // upper halves
+        };
+        (answer::DONE, value)
+    }
+
+    /// Writes a register. Each rule below puts 5 before 4 (reading: both fit, then 5).
+    pub fn write(&mut self, offset: u32, value: u32) -> u32 {
+        let answer = self.admit_access(offset);
+        if answer != answer::DONE {
+            return answer;
+        }
+        let busy = !self.idle();
+        match offset {
+            0x00 => {
+                // Reading: Reset acts at once, also while busy or in error.
+                if bit(value, RESET) {
+                    *self = Engine::fresh(self.width, self.beats);
+                    return answer::DONE;
+                }
+                let sg_mode = bit(value, SG_MODE);
+                // Reading: a write that gets 4 leaves the enables too; one that keeps SGMode
+                // while busy sets them; changing SGMode clears no pointer.
+                if busy && sg_mode != self.sg_mode {
+                    return answer::BUSY;
+                }
+                self.sg_mode = sg_mode;
+                self.ioc_enable = bit(value, IOC);
+                self.err_enable = bit(value, ERR);
+            }
+            0x04 => {
+                // Reading: writable with an error bit set, and lifts none of them.
+                self.ioc_irq &= !bit(value, IOC);
+                self.err_irq &= !bit(value, ERR);
+            }
+            0x08 | 0x10 | 0x18 | 0x20 | 0x28 => {
+                if self.in_error() {
+                    return answer::ERROR;
+                }
+                return self.write_transfer(offset, value, busy);
+            }
+            // Upper halves. Reading: answer 0 in every state that is well formed.
+            _ => {}
+        }
+        answer::DONE
+    }
+
+    /// CURDESC, TAILDESC, SA, DA and BTT, with no error bit set.
+    fn write_transfer(&mut self, offset: u32, value: u32, busy: bool) -> u32 {
+        // TAILDESC alone may be written while busy, and alone asks for chain mode.
+        if offset == 0x10 {
+            // Reading: in simple mode it stores nothing.
+            if !self.sg_mode {
+                return answer::BUSY;
+            }
+            self.tail = value & POINTER_BITS;
+            if !busy {
+                // Reading: current becomes next at once; a start clears no interrupt bit.
+                self.current = self.next;
+                self.phase = Phase::Fetch;
+            }
+            return answer::DONE;
+        }
+        if busy {
+            return answer::BUSY;
+        }
+        match offset {
+            // Reading: CURDESC is writable in simple mode too, SA and DA in chain mode.
+            0x08 => {
+                self.current = value & POINTER_BITS;
+                self.next = self.current;
+            }
+            0x18 => self.sa = value,
+            0x20 => self.da = value,
+            _ => {
+                if self.sg_mode {
+                    return answer::BUSY;
+                }
+                // Reading: zero is judged on the 23 bits kept, and a zero write stores 0.
+                self.btt = value & BTT_BITS;
+                if self.btt == 0 {
+                    self.halt(DMA_INT_ERR);
+                } else {
+                    self.phase = Phase::Move {
+                        source: self.sa,
+                        destination: self.da,
+                        total: self.btt,
+                        moved: 0,
+                    };
+                }
+            }
+        }
+        answer::DONE
+    }
+
+    /// Idle and Err_Irq set with one error bit, current kept.
+    fn halt(&mut self, bit: u32) {
+        let error = match bit {
+            DMA_INT_ERR => &mut self.dma_int_err,
+            DMA_SLV_ERR => &mut self.dma_slv_err,
+            DMA_DEC_ERR => &mut self.dma_dec_err,
+            SG_INT_ERR => &mut self.sg_int_err,
+            SG_SLV_ERR => &mut self.sg_slv_err,
+            _ => &mut self.sg_dec_err,
+        };
+        *error = true;
+        self.err_irq = true;
+        self.phase = Phase::Idle;
+    }
+
+    /// One step: the answer and the event (none beside every answer but 0).
+    /// Reading: each step judges the memory and the windows it is lent.
+    pub fn step(&mut self, memory: &mut [u8], windows: &[Window]) -> (u32, Event) {
+        let answer = self.admit_steps(memory.len(), windows.len());
+        if answer != answer::DONE {
+            return (answer, Event::None);
+        }
+        (answer::DONE, self.advance(memory, windows))
+    }
+
+    /// Steps until idle or `n` taken: the answer and the steps taken.
+    /// Reading: a run judges its refusals once, at its start.
+    pub fn run(&mut self, memory: &mut [u8], windows: &[Window], n: u16) -> (u32, u16) {
+        let answer = self.admit_steps(memory.len(), windows.len());
+        if answer != answer::DONE {
+            return (answer, 0);
+        }
+        let mut steps = 0;
+        while steps < n && !self.idle() {
+            self.advance(memory, windows);
+            steps += 1;
+        }
+        (answer::DONE, steps)
+    }
+
+    /// (IOC_Irq and its enable) or (Err_Irq and its enable).
+    pub fn interrupt_line(&self) -> bool {
+        self.ioc_irq && self.ioc_enable || self.err_irq && self.err_enable
+    }
+
+    /// One step without the refusals: they are judged, and steps keep the state well formed.
+    #[inline]
+    pub(crate) fn advance(&mut self, memory: &mut [u8], windows: &[Window]) -> Event {
+        match self.phase {
+            Phase::Idle => Event::None,
+            Phase::Fetch => self.fetch(memory, windows),
+            Phase::Move { source, destination, total, moved } => {
+                self.burst(memory, windows, source, destination, total, moved)
+            }
+            Phase::Update(outcome) => self.update(memory, windows, outcome),
+        }
+    }
+
+    /// Fetch. Reading: tests in the order decode, slave, stale, zero count.
+    fn fetch(&mut self, memory: &[u8], windows: &[Window]) -> Event {
+        let current = self.current;
+        let failed = match memory::verdict(memory.len(), windows, current, DESCRIPTOR as u32) {
+            Verdict::Decode => SG_DEC_ERR,
+            Verdict::Slave => SG_SLV_ERR,
+            Verdict::Okay => {
+                let at = current as usize;
+                let mut descriptor = [0; DESCRIPTOR];
+                descriptor.copy_from_slice(&memory[at..at + DESCRIPTOR]);
+                // Reading: stale looks at bit 31 alone, and SGIntErr comes from it only.
+                if !bit(word(&descriptor, STATUS as usize), 31) {
+                    return self.take(&descriptor);
+                }
+                SG_INT_ERR
+            }
+        };
+        // 01 leaves open whether a halting fetch keeps the next it read: held next stays here.
+        self.halt(failed);
+        Event::Halt { current, bit: failed }
+    }
+
+    /// A good fetch: holds the next pointer, and goes to update (count 0) or to move.
+    #[inline]
+    fn take(&mut self, descriptor: &[u8; DESCRIPTOR]) -> Event {
+        self.held_next = word(descriptor, 0x00) & POINTER_BITS;
+        let total = word(descriptor, 0x18) & BTT_BITS;
+        // Reading: BTT 0 is DMAIntErr, shown in CDMASR by its update only.
+        self.phase = if total == 0 {
+            Phase::Update(Outcome::Internal)
+        } else {
+            Phase::Move {
+                source: word(descriptor, 0x08),
+                destination: word(descriptor, 0x10),
+                total,
+                moved: 0,
+            }
+        };
+        Event::Fetch { current: self.current }
+    }
+
+    /// Move of one burst. Reading: the cut follows the destination only, and a transfer whose
+    /// destination + total passes 2^32 has its burst at the top end by decode error.
+    fn burst(
+        &mut self,
+        memory: &mut [u8],
+        windows: &[Window],
+        source: u32,
+        destination: u32,
+        total: u32,
+        moved: u32,
+    ) -> Event {
+        let from = source + moved;
+        let to = destination + moved;
+        let bytes = cut::first_burst(self.width, self.beats, to, total - moved);
+        let length = memory.len();
+        let verdict = memory::verdict(length, windows, from, bytes)
+            .max(memory::verdict(length, windows, to, bytes));
+        let (outcome, failed) = match verdict {
+            Verdict::Okay => {
+                // Reading: "read before written" holds within one burst.
+                let at = from as usize;
+                memory.copy_within(at..at + bytes as usize, to as usize);
+                let moved = moved + bytes;
+                if moved < total {
+                    self.phase = Phase::Move { source, destination, total, moved };
+                } else if self.sg_mode {
+                    self.phase = Phase::Update(Outcome::Complete);
+                } else {
+                    self.phase = Phase::Idle;
+                    self.ioc_irq = true;
+                }
+                return Event::Move { start: to, bytes };
+            }
+            Verdict::Slave => (Outcome::Slave, DMA_SLV_ERR),
+            Verdict::Decode => (Outcome::Decode, DMA_DEC_ERR),
+        };
+        // Reading: bursts moved before stay written; a chain transfer that failed stays busy
+        // without an error bit until its update; a failing simple move is the event fault alone.
+        if self.sg_mode {
+            self.phase = Phase::Update(outcome);
+        } else {
+            self.halt(failed);
+        }
+        Event::Fault { destination: to, bit: failed }
+    }
+
+    /// Update of the status word. Reading: judges 4 bytes and writes the whole word.
+    fn update(&mut self, memory: &mut [u8], windows: &[Window], outcome: Outcome) -> Event {
+        let current = self.current;
+        let status = current + STATUS; // current is a multiple of 64
+        let failed = match memory::verdict(memory.len(), windows, status, 4) {
+            Verdict::Okay => None,
+            Verdict::Slave => Some(SG_SLV_ERR),
+            Verdict::Decode => Some(SG_DEC_ERR),
+        };
+        if let Some(failed) = failed {
+            self.halt(failed);
+            return Event::Halt { current, bit: failed };
+        }
+        let word: u32 = match outcome {
+            Outcome::Complete => 0x8000_0000,
+            Outcome::Decode => 1 << 30,
+            Outcome::Slave => 1 << 29,
+            Outcome::Internal => 1 << 28,
+        };
+        let at = status as usize;
+        memory[at..at + 4].copy_from_slice(&word.to_le_bytes());
+        match outcome {
+            Outcome::Complete => {
+                self.ioc_irq = true;
+                self.next = self.held_next;
+                // Reading: after the tail, current stays at the finished descriptor.
+                if current == self.tail {
+                    self.phase = Phase::Idle;
+                } else {
+                    self.current = self.next;
+                    self.phase = Phase::Fetch;
+                }
+            }
+            Outcome::Decode => self.halt(DMA_DEC_ERR),
+            Outcome::Slave => self.halt(DMA_SLV_ERR),
+            Outcome::Internal => self.halt(DMA_INT_ERR),
+        }
+        // Reading: a bad update that writes its word is the event update alone.
+        Event::Update { current, word }
+    }
+}

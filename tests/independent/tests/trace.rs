@@ -1,0 +1,630 @@
+// Tests of the replay: document 01, "Trace and listing", the whole case, each record kind and
+// each refusal with its order, and any bytes at all.
+
+mod common;
+
+use common::{descriptor, Random, Trace};
+use independent::answer;
+use independent::engine::{Engine, Event, Phase};
+use independent::monitor::{Clock, Monitor};
+use independent::trace::replay;
+
+const HEADER: &str = "seq event first second\n";
+
+const VALID: Clock = Clock {
+    reset_high: true,
+    valid: true,
+    ready: false,
+    address: 0,
+    length: 0,
+    size: 0,
+    burst: 0,
+    cache: 0,
+    prot: 0,
+    qos: 0,
+    region: 0,
+    id: 0,
+};
+
+/// The listing without its header, and whether it is sound.
+fn listing(trace: &Trace) -> (String, bool) {
+    let mut output = Vec::new();
+    let sound = replay(&trace.0, &mut output);
+    let text = String::from_utf8(output).unwrap();
+    let lines = text.strip_prefix(HEADER).unwrap().to_string();
+    assert!(lines.is_empty() || lines.ends_with('\n'));
+    let ends_bad = lines.lines().last().is_some_and(|line| line.split(' ').nth(1) == Some("bad"));
+    assert_eq!(sound, !ends_bad);
+    (lines, sound)
+}
+
+fn good(trace: &Trace, expected: &str) {
+    assert_eq!(listing(trace), (expected.to_string(), true));
+}
+
+fn bad(trace: &Trace, expected: &str) {
+    assert_eq!(listing(trace), (expected.to_string(), false));
+}
+
+#[test]
+fn whole_case() {
+    let trace = Trace::new().cf(1, 4, 16).wr(2, 24, 256).wr(9, 32, 4088).wr(10, 40, 16).st(11, 5);
+    let mut output = Vec::new();
+    assert!(replay(&trace.0, &mut output));
+    let expected = "seq event first second\n\
+                    1 set 4 16\n\
+                    2 write 24 0\n\
+                    9 write 32 0\n\
+                    10 write 40 0\n\
+                    11 move 4088 8\n\
+                    11 move 4096 8\n\
+                    11 stop 2 1\n";
+    assert_eq!(String::from_utf8(output).unwrap(), expected);
+}
+
+#[test]
+fn empty_input_is_the_header_alone() {
+    let mut output = b"before".to_vec();
+    assert!(replay(&[], &mut output));
+    assert_eq!(output, b"beforeseq event first second\n");
+}
+
+#[test]
+fn settings() {
+    good(&Trace::new().cf(7, 128, 256), "7 set 128 256\n");
+    for (width, beats) in [(0, 16), (4, 0), (256, 16), (4, 512), (5, 16), (4, 65535)] {
+        bad(&Trace::new().cf(7, width, beats).st(8, 1), "0 bad 1 0\n");
+    }
+    // Without a CF: W=4, L=16, and no line.
+    let trace = Trace::new().wr(1, 40, 65).st(2, 9);
+    good(&trace, "1 write 40 0\n2 move 0 64\n2 move 64 1\n2 stop 2 1\n");
+    // With it, its settings: two beats of four bytes; and for the monitor's width.
+    let trace = Trace::new().cf(1, 4, 2).wr(2, 40, 17).st(3, 9);
+    good(&trace, "1 set 4 2\n2 write 40 0\n3 move 0 8\n3 move 8 8\n3 move 16 1\n3 stop 3 1\n");
+    let quiet = Clock { valid: false, ..VALID };
+    let clock = Clock { size: 3, ..VALID };
+    good(&Trace::new().ar(1, &quiet).ar(2, &clock), "1 bus 0 0\n2 bus 1 44\n");
+    let trace = Trace::new().cf(1, 8, 2).ar(2, &quiet).ar(3, &clock);
+    good(&trace, "1 set 8 2\n2 bus 0 0\n3 bus 0 0\n");
+    // Reset keeps them.
+    let trace = Trace::new().cf(1, 4, 2).wr(2, 0, 4).wr(3, 40, 9).st(4, 9);
+    good(&trace, "1 set 4 2\n2 write 0 0\n3 write 40 0\n4 move 0 8\n4 move 8 1\n4 stop 2 1\n");
+}
+
+#[test]
+fn memory_records() {
+    let trace = Trace::new().mm(1, 0, &[1]).mm(2, 32767, &[2]).mm(3, 31744, &[3; 1024]);
+    good(&trace, "1 memory 0 1\n2 memory 32767 1\n3 memory 31744 1024\n");
+    let first = Trace::new().mm(5, 0, &[1]); // 13 bytes
+    bad(&first.clone().mm(6, 32767, &[1, 2]), "5 memory 0 1\n5 bad 12 13\n");
+    bad(&first.clone().mm(6, 32768, &[1]), "5 memory 0 1\n5 bad 12 13\n");
+    bad(&first.clone().mm(6, u32::MAX, &[1]), "5 memory 0 1\n5 bad 12 13\n");
+    bad(&first.clone().mm(6, 31745, &[1; 1024]), "5 memory 0 1\n5 bad 12 13\n");
+    bad(&first.clone().mm(6, 0, &[]), "5 memory 0 1\n5 bad 10 13\n");
+    bad(&first.mm(6, 0, &[0; 1025]), "5 memory 0 1\n5 bad 10 13\n");
+}
+
+#[test]
+fn windows() {
+    let mut trace = Trace::new();
+    let mut expected = String::new();
+    for n in 1..=16 {
+        trace = trace.sw(n, 4_294_967_295, 0);
+        expected += &format!("{n} window 4294967295 0\n");
+    }
+    good(&trace, &expected);
+    let seventeen = trace.clone().sw(17, 0, 0);
+    bad(&seventeen, &format!("{expected}16 bad 6 {}\n", 16 * 14));
+    // The step after sixteen is not refused.
+    good(
+        &trace.wr(20, 40, 1).st(21, 1),
+        &format!("{expected}20 write 40 0\n21 move 0 1\n21 stop 1 1\n"),
+    );
+    // A window counts from the next step on; MM writes whatever it says.
+    let trace = Trace::new()
+        .wr(1, 40, 65)
+        .st(2, 1)
+        .sw(3, 64, 1)
+        .mm(4, 60, &[1, 2, 3, 4, 5])
+        .st(5, 1)
+        .rd(6, 4);
+    good(
+        &trace,
+        "1 write 40 0\n2 move 0 64\n2 stop 1 0\n3 window 64 1\n4 memory 60 5\n\
+         5 fault 64 5\n5 stop 1 1\n6 read 4 81962\n",
+    );
+}
+
+#[test]
+fn writes_and_reads() {
+    let trace = Trace::new()
+        .rd(1, 0)
+        .rd(2, 4)
+        .wr(3, 24, u32::MAX)
+        .rd(4, 24)
+        .rd(5, 41)
+        .wr(6, 44, 0)
+        .wr(7, 65535, 9)
+        .rd(8, 65535)
+        .wr(9, 16, 64)
+        .wr(10, 40, 0)
+        .wr(11, 40, 1)
+        .rd(12, 4)
+        .wr(13, 0, 4)
+        .rd(14, 4)
+        .wr(15, 12, 3)
+        .rd(16, 12);
+    good(
+        &trace,
+        "1 read 0 65538\n2 read 4 65546\n3 write 24 0\n4 read 24 4294967295\n5 noread 41 3\n\
+         6 write 44 3\n7 write 65535 3\n8 noread 65535 3\n9 write 16 4\n10 write 40 0\n\
+         11 write 40 5\n12 read 4 81946\n13 write 0 0\n14 read 4 65546\n15 write 12 0\n16 read 12 0\n",
+    );
+    // A refused WR or RD is a good record: its number counts for 11 and for the bad line.
+    let refused = Trace::new().rd(5, 1).wr(6, 3, 0); // 8 + 12 bytes
+    bad(&refused.clone().rd(6, 0), "5 noread 1 3\n6 write 3 3\n6 bad 11 20\n");
+    bad(&refused.raw(b"??"), "5 noread 1 3\n6 write 3 3\n6 bad 10 20\n");
+}
+
+#[test]
+fn steps_of_a_chain() {
+    let trace = Trace::new()
+        .mm(1, 64, &descriptor(128, 1024, 2000, 100, 0))
+        .mm(2, 128, &descriptor(192, 1024, 3000, 0, 0))
+        .wr(3, 0, 8)
+        .wr(4, 8, 64)
+        .wr(5, 16, 192)
+        .st(6, 0)
+        .st(7, 2)
+        .st(8, 65535)
+        .st(9, 5)
+        .rd(10, 8);
+    good(
+        &trace,
+        "1 memory 64 32\n2 memory 128 32\n3 write 0 0\n4 write 8 0\n5 write 16 0\n6 stop 0 0\n\
+         7 fetch 64 0\n7 move 2000 64\n7 stop 2 0\n\
+         8 move 2064 36\n8 update 64 2147483648\n8 fetch 128 0\n8 update 128 268435456\n8 stop 4 1\n\
+         9 stop 0 1\n10 read 8 128\n",
+    );
+    // Halts, by their bits; a fault with its update.
+    let chain = |trace: Trace| trace.wr(10, 0, 8).wr(11, 8, 32704).wr(12, 16, 0).st(13, 9);
+    let head = "10 write 0 0\n11 write 8 0\n12 write 16 0\n";
+    let trace = chain(Trace::new().sw(1, 32704, 1));
+    good(&trace, &format!("1 window 32704 1\n{head}13 halt 32704 9\n13 stop 1 1\n"));
+    let trace = chain(Trace::new().mm(1, 32735, &[0x80]));
+    good(&trace, &format!("1 memory 32735 1\n{head}13 halt 32704 8\n13 stop 1 1\n"));
+    let trace = Trace::new().wr(1, 0, 8).wr(2, 8, 32768).wr(3, 16, 0).st(4, 9);
+    good(&trace, "1 write 0 0\n2 write 8 0\n3 write 16 0\n4 halt 32768 10\n4 stop 1 1\n");
+    let trace = chain(Trace::new().mm(1, 32704, &descriptor(0, 40000, 9, 5, 0)));
+    good(
+        &trace,
+        &format!(
+            "1 memory 32704 32\n{head}13 fetch 32704 0\n13 fault 9 6\n\
+             13 update 32704 1073741824\n13 stop 3 1\n"
+        ),
+    );
+    // A window set over the status word in the midst: the update halts.
+    let trace = Trace::new()
+        .mm(1, 0, &descriptor(0, 100, 200, 5, 0))
+        .wr(2, 0, 8)
+        .wr(3, 16, 0)
+        .st(4, 2)
+        .sw(5, 28, 4)
+        .st(6, 9);
+    good(
+        &trace,
+        "1 memory 0 32\n2 write 0 0\n3 write 16 0\n4 fetch 0 0\n4 move 200 5\n4 stop 2 0\n\
+         5 window 28 4\n6 halt 0 9\n6 stop 1 1\n",
+    );
+    // A fetched descriptor keeps what was read; the stale bit written after is overwritten.
+    let trace = Trace::new()
+        .mm(1, 0, &descriptor(64, 100, 200, 5, 0))
+        .wr(2, 0, 8)
+        .wr(3, 16, 0)
+        .st(4, 1)
+        .mm(5, 0, &descriptor(640, 7, 8, 9, u32::MAX))
+        .st(6, 9)
+        .wr(7, 16, 64)
+        .rd(8, 8);
+    good(
+        &trace,
+        "1 memory 0 32\n2 write 0 0\n3 write 16 0\n4 fetch 0 0\n4 stop 1 0\n5 memory 0 32\n\
+         6 move 200 5\n6 update 0 2147483648\n6 stop 2 1\n7 write 16 0\n8 read 8 64\n",
+    );
+}
+
+#[test]
+fn bus_records() {
+    let quiet = Clock { valid: false, ..VALID };
+    let trace = Trace::new()
+        .ar(1, &VALID)
+        .ar(2, &Clock { address: 4_294_967_295, burst: 1, length: 255, ready: true, ..VALID })
+        .ar(3, &quiet)
+        .ar(4, &Clock { reset_high: false, ..quiet })
+        .ar(5, &quiet)
+        .ar(6, &Clock { id: 1, ..VALID })
+        .ar(7, &Clock { id: 2, ..VALID });
+    good(
+        &trace,
+        "1 bus 1 45\n2 bus 5 37\n3 bus 5 37\n4 bus 0 0\n5 bus 0 0\n6 bus 0 0\n7 bus 1 49\n",
+    );
+    // Each field out of range, in reset and with valid low too; the mark's position.
+    let first = Trace::new().rd(9, 0); // 8 bytes
+    for bits in [0, 1, 3, 7] {
+        for clock in [
+            Clock { size: 8, ..VALID },
+            Clock { burst: 4, ..VALID },
+            Clock { cache: 16, ..VALID },
+            Clock { prot: 8, ..VALID },
+            Clock { qos: 16, ..VALID },
+            Clock { region: 255, ..VALID },
+        ] {
+            bad(&first.clone().ar_bits(10, bits, &clock), "9 read 0 65538\n9 bad 13 8\n");
+        }
+    }
+    for bits in 0..=255 {
+        let trace = first.clone().ar_bits(10, bits, &VALID);
+        match bits {
+            0..=7 => assert!(listing(&trace).1),
+            _ => bad(&trace, "9 read 0 65538\n9 bad 13 8\n"),
+        }
+    }
+}
+
+#[test]
+fn a_late_cf_and_unknown_marks() {
+    bad(&Trace::new().cf(1, 4, 16).cf(2, 4, 16), "1 set 4 16\n1 bad 10 10\n");
+    bad(&Trace::new().rd(3, 12).cf(4, 4, 16), "3 read 12 0\n3 bad 10 8\n");
+    // 10 before 11: a late CF with an old number.
+    bad(&Trace::new().rd(3, 12).cf(3, 4, 16), "3 read 12 0\n3 bad 10 8\n");
+    for mark in [b"cf", b"FC", b"WM", b"\0\0", b"\xff\xff", b"RA", b"SR", b"MW", b"C ", b"\nS"] {
+        bad(&Trace::new().raw(mark).raw(&[1; 40]), "0 bad 10 0\n");
+    }
+}
+
+#[test]
+fn every_record_cut_short() {
+    let before = Trace::new().rd(1, 8); // 8 bytes
+    let records = [
+        Trace::new().mm(2, 0, &[1, 2, 3]),
+        Trace::new().sw(2, 0, 0),
+        Trace::new().wr(2, 24, 1),
+        Trace::new().rd(2, 8),
+        Trace::new().st(2, 1),
+        Trace::new().ar(2, &VALID),
+    ];
+    for record in records {
+        assert!(listing(&before.clone().raw(&record.0)).1);
+        for length in 1..record.0.len() {
+            let cut = before.clone().raw(&record.0[..length]);
+            bad(&cut, "1 read 8 0\n1 bad 10 8\n");
+        }
+    }
+    let settings = Trace::new().cf(1, 4, 16);
+    for length in 1..settings.0.len() {
+        bad(&Trace::new().raw(&settings.0[..length]), "0 bad 10 0\n");
+    }
+}
+
+#[test]
+fn sequence_numbers() {
+    bad(&Trace::new().rd(0, 8), "0 bad 11 0\n");
+    bad(&Trace::new().rd(5, 8).rd(5, 8), "5 read 8 0\n5 bad 11 8\n");
+    bad(&Trace::new().rd(5, 8).rd(4, 8), "5 read 8 0\n5 bad 11 8\n");
+    good(&Trace::new().rd(1, 8).rd(u32::MAX, 8), "1 read 8 0\n4294967295 read 8 0\n");
+    bad(
+        &Trace::new().rd(u32::MAX, 8).rd(u32::MAX, 8),
+        "4294967295 read 8 0\n4294967295 bad 11 8\n",
+    );
+    // 11 before each record's own refusal.
+    bad(&Trace::new().cf(0, 5, 5), "0 bad 11 0\n");
+    let first = Trace::new().rd(5, 8);
+    let line = "5 read 8 0\n5 bad 11 8\n";
+    bad(&first.clone().mm(5, 32768, &[1]), line);
+    bad(&first.clone().ar_bits(5, 255, &VALID), line);
+    bad(&first.clone().wr(5, 3, 0), line);
+    bad(&first.clone().rd(5, 3), line);
+    bad(&first.clone().st(1, 0), line);
+    let mut full = Trace::new();
+    for n in 1..=16 {
+        full = full.sw(n, 0, 0);
+    }
+    let (text, _) = listing(&full.sw(16, 0, 0));
+    assert!(text.ends_with("\n16 bad 11 224\n"));
+    // 10 before 11: cut short, and a length out of range.
+    bad(&first.clone().mm(5, 0, &[]), "5 read 8 0\n5 bad 10 8\n");
+    bad(&first.clone().raw(b"RD\x01\0\0\0\0"), "5 read 8 0\n5 bad 10 8\n");
+    // 10 before 12.
+    bad(&first.mm(6, 40000, &[]), "5 read 8 0\n5 bad 10 8\n");
+}
+
+#[test]
+fn nothing_after_a_bad_line() {
+    let trace = Trace::new().rd(5, 8).rd(5, 8).rd(6, 8).cf(7, 4, 16);
+    bad(&trace, "5 read 8 0\n5 bad 11 8\n");
+}
+
+#[test]
+fn numbers_of_every_length() {
+    let mut trace = Trace::new();
+    let mut expected = String::new();
+    let mut sequence = 0u32;
+    for power in 0..10 {
+        let ten = 10u32.pow(power);
+        for value in [ten - 1, ten, ten + 1, ten.wrapping_mul(9)] {
+            sequence = sequence.max(value).max(sequence + 1);
+            trace = trace.wr(sequence, 24, value).rd(sequence + 1, 24);
+            expected += &format!("{sequence} write 24 0\n{} read 24 {value}\n", sequence + 1);
+            sequence += 1;
+        }
+        if power == 8 {
+            break;
+        }
+    }
+    good(&trace, &expected);
+    let trace = Trace::new().sw(1, u32::MAX, u32::MAX);
+    good(&trace, "1 window 4294967295 4294967295\n");
+}
+
+#[test]
+fn random_bytes_never_panic() {
+    let mut random = Random::new(7);
+    for _ in 0..6000 {
+        let length = random.below(200);
+        let bytes: Vec<u8> = (0..length).map(|_| random.u32() as u8).collect();
+        let (lines, sound) = listing(&Trace(bytes));
+        assert_eq!(sound, lines.is_empty());
+    }
+}
+
+const MARKS: [&[u8]; 7] = [b"CF", b"MM", b"SW", b"WR", b"RD", b"ST", b"AR"];
+
+#[test]
+fn random_bytes_behind_good_marks_never_panic() {
+    let mut random = Random::new(8);
+    for _ in 0..6000 {
+        let mut bytes = Vec::new();
+        for n in 1..=random.below(20) {
+            bytes.extend_from_slice(random.pick(&MARKS));
+            bytes.extend_from_slice(&n.to_le_bytes());
+            for _ in 0..random.pick(&[2, 2, 4, 6, 6, 8, 16, 20]) {
+                let byte = if random.chance(2) { random.below(9) } else { random.u32() };
+                bytes.push(byte as u8);
+            }
+        }
+        listing(&Trace(bytes));
+    }
+}
+
+/// A random trace of good records, mostly about a small stretch of memory.
+fn some_trace(random: &mut Random) -> Trace {
+    let mut trace = Trace::new();
+    let mut sequence = 0;
+    if random.chance(2) {
+        sequence += 1;
+        let width = random.pick(&common::WIDTHS) as u16;
+        trace = trace.cf(sequence, width, random.pick(&common::BEATS) as u16);
+    }
+    let mut windows = 0;
+    for _ in 0..random.below(60) {
+        sequence += 1 + random.below(3);
+        trace = match random.below(16) {
+            0..=3 => {
+                let at = random.below(8) * 64;
+                let stale = if random.chance(6) { 1 << 31 } else { 0 };
+                let bytes = descriptor(
+                    random.below(8) * 64,
+                    random.below(5000),
+                    if random.chance(8) { random.u32() } else { random.below(33000) },
+                    if random.chance(8) { 0 } else { random.below(300) },
+                    stale,
+                );
+                trace.mm(sequence, at, &bytes)
+            }
+            4 if windows < 3 => {
+                windows += 1;
+                trace.sw(sequence, random.below(33000), random.below(20))
+            }
+            5 => trace.wr(sequence, 0, random.pick(&[0, 8, 8, 0x5000, 0x5008, 4])),
+            6 => trace.wr(sequence, 4, random.pick(&[1 << 12, 1 << 14, u32::MAX])),
+            7 => trace.wr(sequence, 8, random.below(8) * 64),
+            8 => trace.wr(sequence, 16, random.below(8) * 64),
+            9 => trace.wr(sequence, 24, random.below(33000)),
+            10 => trace.wr(sequence, 32, random.below(33000)),
+            11 => trace.wr(sequence, 40, random.below(400)),
+            12 => trace.rd(sequence, random.below(46) as u16),
+            13 => trace.st(sequence, random.below(30) as u16),
+            14 => {
+                // From a reset into a chain, or now and then into a simple move.
+                sequence += 4;
+                if random.chance(3) {
+                    trace
+                        .wr(sequence - 4, 0, 4)
+                        .wr(sequence - 3, 24, random.below(33000))
+                        .wr(sequence - 2, 32, random.below(33000))
+                        .wr(sequence - 1, 40, random.below(400))
+                        .st(sequence, random.below(8) as u16)
+                } else {
+                    trace
+                        .wr(sequence - 4, 0, 4)
+                        .wr(sequence - 3, 0, 8)
+                        .wr(sequence - 2, 8, random.below(8) * 64)
+                        .wr(sequence - 1, 16, random.below(8) * 64)
+                        .st(sequence, random.below(30) as u16)
+                }
+            }
+            _ => {
+                let clock = Clock {
+                    reset_high: !random.chance(9),
+                    valid: !random.chance(3),
+                    ready: random.chance(2),
+                    address: random.below(9000),
+                    length: random.below(40),
+                    size: random.below(4),
+                    burst: random.below(4),
+                    cache: random.below(16),
+                    id: random.below(3),
+                    ..VALID
+                };
+                trace.ar(sequence, &clock)
+            }
+        };
+    }
+    trace
+}
+
+/// The replay again through the public interface, with the standard library's formatting: a
+/// check of the printing and of the ST loop.
+fn slow_listing(bytes: &[u8]) -> String {
+    let mut text = HEADER.to_string();
+    let (mut width, mut beats) = (4, 16);
+    let mut engine = Engine::fresh(width, beats);
+    let mut monitor = Monitor::fresh();
+    let mut memory = vec![0u8; 32768];
+    let mut windows = Vec::new();
+    let half = |at: usize| u32::from(u16::from_le_bytes(bytes[at..at + 2].try_into().unwrap()));
+    let full = |at: usize| u32::from_le_bytes(bytes[at..at + 4].try_into().unwrap());
+    let mut at = 0;
+    while at < bytes.len() {
+        let n = full(at + 2);
+        let body = at + 6;
+        at = match &bytes[at..at + 2] {
+            b"CF" => {
+                (width, beats) = (half(body), half(body + 2));
+                engine = Engine::fresh(width, beats);
+                text += &format!("{n} set {width} {beats}\n");
+                body + 4
+            }
+            b"MM" => {
+                let (address, length) = (full(body) as usize, half(body + 4) as usize);
+                memory[address..address + length]
+                    .copy_from_slice(&bytes[body + 6..body + 6 + length]);
+                text += &format!("{n} memory {address} {length}\n");
+                body + 6 + length
+            }
+            b"SW" => {
+                windows.push((full(body), full(body + 4)));
+                text += &format!("{n} window {} {}\n", full(body), full(body + 4));
+                body + 8
+            }
+            b"WR" => {
+                let answer = engine.write(half(body), full(body + 2));
+                text += &format!("{n} write {} {answer}\n", half(body));
+                body + 6
+            }
+            b"RD" => {
+                let (answer, value) = engine.read(half(body));
+                text += &match answer {
+                    0 => format!("{n} read {} {value}\n", half(body)),
+                    _ => format!("{n} noread {} {answer}\n", half(body)),
+                };
+                body + 2
+            }
+            b"ST" => {
+                let mut steps = 0;
+                while steps < half(body) && engine.phase != Phase::Idle {
+                    let (answer, event) = engine.step(&mut memory, &windows);
+                    assert_eq!(answer, 0);
+                    steps += 1;
+                    text += &match event {
+                        Event::None => panic!("a busy engine did nothing"),
+                        Event::Fetch { current } => format!("{n} fetch {current} 0\n"),
+                        Event::Move { start, bytes } => format!("{n} move {start} {bytes}\n"),
+                        Event::Fault { destination, bit } => {
+                            format!("{n} fault {destination} {bit}\n")
+                        }
+                        Event::Update { current, word } => format!("{n} update {current} {word}\n"),
+                        Event::Halt { current, bit } => format!("{n} halt {current} {bit}\n"),
+                    };
+                }
+                let idle = engine.read(4).1 >> 1 & 1;
+                text += &format!("{n} stop {steps} {idle}\n");
+                body + 2
+            }
+            b"AR" => {
+                let clock = Clock {
+                    reset_high: bytes[body] & 1 != 0,
+                    valid: bytes[body] & 2 != 0,
+                    ready: bytes[body] & 4 != 0,
+                    length: bytes[body + 1].into(),
+                    size: bytes[body + 2].into(),
+                    burst: bytes[body + 3].into(),
+                    cache: bytes[body + 4].into(),
+                    prot: bytes[body + 5].into(),
+                    qos: bytes[body + 6].into(),
+                    region: bytes[body + 7].into(),
+                    id: full(body + 8),
+                    address: full(body + 12),
+                };
+                assert_eq!(monitor.clock(width, beats, &clock), 0);
+                let lowest = (0..64).find(|n| monitor.flags >> n & 1 == 1).unwrap_or(0);
+                text += &format!("{n} bus {} {lowest}\n", monitor.count());
+                body + 16
+            }
+            _ => panic!(),
+        };
+    }
+    text
+}
+
+#[test]
+fn good_traces_list_as_the_slow_listing() {
+    let mut random = Random::new(9);
+    let words = [
+        "set", "memory", "window", "write", "read", "noread", "fetch", "move", "fault", "update",
+        "halt", "stop", "bus",
+    ];
+    let mut seen = [0; 13];
+    for _ in 0..4000 {
+        let trace = some_trace(&mut random);
+        let mut output = Vec::new();
+        assert!(replay(&trace.0, &mut output));
+        let text = String::from_utf8(output).unwrap();
+        assert_eq!(text, slow_listing(&trace.0));
+        for line in text.lines().skip(1) {
+            let word = line.split(' ').nth(1).unwrap();
+            seen[words.iter().position(|&known| known == word).unwrap()] += 1;
+        }
+    }
+    assert!(seen.iter().all(|&count| count > 100), "{seen:?}");
+}
+
+#[test]
+fn damaged_traces_never_panic_and_share_their_beginning() {
+    let mut random = Random::new(10);
+    let mut answers = [0; 14];
+    for _ in 0..6000 {
+        let whole = some_trace(&mut random);
+        if whole.0.is_empty() {
+            continue;
+        }
+        let mut damaged = whole.clone();
+        for _ in 0..1 + random.below(3) {
+            let at = random.below(damaged.0.len() as u32) as usize;
+            match random.below(3) {
+                0 => damaged.0[at] = random.u32() as u8,
+                1 => damaged.0.truncate(at + 1),
+                _ => damaged.0[at] ^= 1 << random.below(8),
+            }
+        }
+        let (lines, sound) = listing(&damaged);
+        if !sound {
+            let parts: Vec<u32> = lines
+                .lines()
+                .last()
+                .unwrap()
+                .split(' ')
+                .filter_map(|part| part.parse().ok())
+                .collect();
+            answers[parts[1] as usize] += 1;
+            // The records before the bad one list the same by themselves.
+            let (before, good) = listing(&Trace(damaged.0[..parts[2] as usize].to_vec()));
+            assert!(good && lines.starts_with(&before));
+            assert_eq!(lines[before.len()..].lines().count(), 1);
+        }
+    }
+    for number in [answer::SETTINGS, answer::RECORD, answer::SEQUENCE, answer::PLACE, answer::FIELD]
+    {
+        assert!(answers[number as usize] > 0, "{answers:?}");
+    }
+}

@@ -1,0 +1,35 @@
+-- `put_header` meets its contract: the laws are in proofs/Lines.antt.
+use Rattle.listing.specs.Line.{headerOf}
+use denote.Ref.{now}
+use native.Mathlib.Omega.{arith}
+use Rattle.listing.proofs.Lines.{header-put}
+use borrow.Author.Needs.{needs}
+use Rattle.listing.proofs.line.put_header.Statement.{statement}
+use Rattle.listing.proofs.line.put_header.Tie as tie
+
+add-end : tie.Need-add-end
+add-end c = search needs
+
+sub-copy : tie.Need-sub-copy
+sub-copy c = search needs
+
+part-copy-start : tie.Need-part-copy-start
+part-copy-start c = search needs
+
+part-copy-end : tie.Need-part-copy-end
+part-copy-end c = search needs
+
+copy-requires : tie.Need-copy-requires
+copy-requires c κs = search needs
+
+same-length : tie.Need-same-length
+same-length c = search needs
+
+returns : tie.Need-returns
+unfolding headerOf
+returns c = let a = c .before .before .before .before .before .before .before .args in header-put (now (a .out)) (a .at) (c .before .before .copy .last .1 .0) (omega arith) (c .before .before .copy .ensures .1)
+
+pub put-header-spec : {M : Type 1} → statement M
+put-header-spec =
+    tie.close
+    (tie.spec add-end sub-copy part-copy-start part-copy-end copy-requires same-length returns)

@@ -1,0 +1,4 @@
+// Document 01, "Trace and listing": the listing's lines, put as bytes into a lent buffer.
+mod decimal;
+pub mod line;
+pub mod word;

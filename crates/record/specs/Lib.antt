@@ -1,0 +1,4 @@
+pub mod Mark
+pub mod Reading
+pub mod Claims
+pub mod Cases

@@ -1,0 +1,71 @@
+use mathlib.Core.Path.{refl, ap}
+use native.Mathlib.Omega.{arith}
+use lib.ListN.{length-set}
+use borrow.Author.Needs.{needs}
+use borrow.Author.Tests.{le-leb, lt-leb}
+use denote.Ref.{now}
+use Rattle.kit.proofs.Choice.{yes, no}
+use Rattle.trace.specs.Effect.{effected}
+use Rattle.trace.specs.declared.session.Effect.{Effect}
+use Rattle.trace.proofs.effect.window.Statement.{statement}
+use Rattle.trace.proofs.effect.window.Tie as tie
+use Rattle.trace.proofs.effect.window.Reads as reads
+use Rattle.trace.proofs.effect.window.Lts as lts
+use Rattle.trace.proofs.effect.bad.Reads as bad-reads
+
+cast-used : tie.Need-cast-used
+cast-used c = search needs
+
+bad-requires : tie.Need-bad-requires
+bad-requires c κs = search needs
+
+returns : tie.Need-returns
+returns c = yes _ (le-leb _ _ (c .before .if1 .taken)) (ap (λ (e : Effect). effected e (now (c .before .before .before .before .args .windows))) (c .bad .ensures))
+
+mul-windows : tie.Need-mul-windows
+mul-windows c = search needs
+
+mul-windows-2 : tie.Need-mul-windows-2
+mul-windows-2 c = search needs
+
+slice-write-windows : tie.Need-slice-write-windows
+slice-write-windows c = search needs
+
+mul-windows-3 : tie.Need-mul-windows-3
+mul-windows-3 c = search needs
+
+add-windows : tie.Need-add-windows
+add-windows c = search needs
+
+mul-windows-4 : tie.Need-mul-windows-4
+mul-windows-4 c = search needs
+
+slice-write-windows-2 : tie.Need-slice-write-windows-2
+slice-write-windows-2 c = simp length-set (omega arith)
+
+add-t19 : tie.Need-add-t19
+add-t19 c = search needs
+
+same-length : tie.Need-same-length
+same-length c = search needs
+
+returns-2 : tie.Need-returns-2
+returns-2 c = no _ (lt-leb _ _ (c .before .before .before .if1 .left)) refl
+
+pub window-spec : {M : Type 1} → statement M
+window-spec =
+    tie.close
+    (tie.spec
+    cast-used
+    bad-requires
+    returns
+    mul-windows
+    mul-windows-2
+    slice-write-windows
+    mul-windows-3
+    add-windows
+    mul-windows-4
+    slice-write-windows-2
+    add-t19
+    same-length
+    returns-2)

@@ -1,0 +1,24 @@
+use mathlib.Core.Path.{ap₂}
+use borrow.Author.Needs.{needs}
+use Rattle.engine.specs.declared.state.Engine.{Engine}
+use Rattle.monitor.specs.declared.monitor.Monitor.{Monitor}
+use Rattle.trace.specs.declared.session.Mode.the-variants.{Records}
+use Rattle.trace.specs.declared.session.Session.{Session}
+use Rattle.trace.proofs.session.start.Statement.{statement}
+use Rattle.trace.proofs.session.start.Tie as tie
+use Rattle.trace.proofs.session.start.Reads as reads
+use Rattle.trace.proofs.session.start.Lts as lts
+use Rattle.engine.proofs.state.fresh.Reads as state-fresh-reads
+use Rattle.monitor.proofs.monitor.Monitor.fresh.Reads as monitor-Monitor-fresh-reads
+
+fresh-requires : tie.Need-fresh-requires
+fresh-requires c κs = search needs
+
+fresh-requires-2 : tie.Need-fresh-requires-2
+fresh-requires-2 c κs = search needs
+
+returns : tie.Need-returns
+returns c = ap₂ {C = Session} (λ (e : Engine) (m : Monitor). record { engine = e; monitor = m; sequence = 0; windows = 0; mode = Records }) (c .before .fresh .ensures) (c .fresh2 .ensures)
+
+pub start-spec : {M : Type 1} → statement M
+start-spec = tie.close (tie.spec fresh-requires fresh-requires-2 returns)

@@ -1,0 +1,117 @@
+-- Document 01, "Trace and listing": what each record but ST does and prints.
+use Prim.Native.Nat.{ℕ, _+_, _*_}
+use mathlib.Core.List.{List}
+use lib.ListN.{length, take, drop, set}
+use lib.Seq.{sets}
+use lib.Dec.{eqb, leb, ltb}
+use Rattle.kit.specs.Choice.{when}
+use Rattle.kit.specs.Limits.{mostWindows}
+use Rattle.kit.specs.Settings.{legalSettings}
+use Rattle.engine.specs.declared.state.Engine.{Engine}
+use Rattle.engine.specs.State.{freshOf}
+use Rattle.engine.specs.Write as registers-written
+use Rattle.engine.specs.Read as registers-read
+use Rattle.monitor.specs.declared.clock.Clock.{Clock}
+use Rattle.monitor.specs.declared.monitor.Monitor.{Monitor}
+use Rattle.monitor.specs.Monitor as bus
+use Rattle.listing.specs.declared.line.Line.{Line}
+use Rattle.listing.specs.declared.word.Word.the-variants.{Set, Memory, Window, Write, Read, NoRead, Bus, Bad}
+use Rattle.trace.specs.declared.session.Mode.{Mode}
+use Rattle.trace.specs.declared.session.Mode.the-variants.{Records, Over}
+use Rattle.trace.specs.declared.session.Session.{Session}
+use Rattle.trace.specs.declared.session.Effect.{Effect}
+
+-- without CF W=4, L=16; no windows, a fresh engine and monitor; sequence numbers start above 0
+abbrev pub startOf : Session
+startOf = record {
+  engine = freshOf (record { width = 4; beats = 16 });
+  monitor = bus.freshOf;
+  sequence = 0;
+  windows = 0;
+  mode = Records;
+}
+
+-- a session with parts replaced
+abbrev pub withEngine : Session → ℕ → Engine → Session
+withEngine s sequence e = record { engine = e; monitor = s .monitor; sequence = sequence; windows = s .windows; mode = s .mode }
+
+abbrev pub withSequence : Session → ℕ → Session
+withSequence s sequence = withEngine s sequence (s .engine)
+
+abbrev pub withMode : Session → Mode → Session
+withMode s m = record { engine = s .engine; monitor = s .monitor; sequence = s .sequence; windows = s .windows; mode = m }
+
+-- a session and its line, with the slice that was lent beside them
+pub record Effected : Type 0 where
+  pub effect : Effect
+  pub lent : List ℕ
+
+abbrev pub effected : Effect → List ℕ → Effected
+effected e lent = record { effect = e; lent = lent }
+
+-- any other refusal prints last good sequence, `bad`, answer, the mark's position, and ends
+abbrev pub badOf : Session → ℕ → ℕ → Effect
+badOf s answer position = record {
+  session = withMode s Over;
+  line = record { sequence = s .sequence; word = Bad; first = answer; second = position };
+}
+
+-- CF: set W L
+abbrev pub settingsOf : Session → ℕ → ℕ → ℕ → ℕ → Effect
+settingsOf s sequence width beats position =
+    when (legalSettings width beats)
+    (record {
+      session = withEngine s sequence (freshOf (record { width = width; beats = beats }));
+      line = record { sequence = sequence; word = Set; first = width; second = beats };
+    })
+    (badOf s 1 position)
+
+-- MM: memory address length; bytes past the program's memory: 12
+abbrev pub memoryOf : Session → ℕ → ℕ → ℕ → ℕ → List ℕ → ℕ → List ℕ → Effected
+memoryOf s sequence address count position input from m =
+    when (ltb (length m) (address + count)) (effected (badOf s 12 position) m)
+    (effected
+    (record { session = withSequence s sequence; line = record { sequence = sequence; word = Memory; first = address; second = count } })
+    (sets m address (take count (drop from input))))
+
+-- SW: window start length; a seventeenth: 6
+abbrev pub windowOf : Session → ℕ → ℕ → ℕ → ℕ → List ℕ → Effected
+windowOf s sequence start count position windows =
+    when (leb mostWindows (s .windows)) (effected (badOf s 6 position) windows)
+    (effected
+    (record {
+      session = record { engine = s .engine; monitor = s .monitor; sequence = sequence; windows = s .windows + 1; mode = s .mode };
+      line = record { sequence = sequence; word = Window; first = start; second = count };
+    })
+    (set (set windows (2 * s .windows) start) (2 * s .windows + 1) count))
+
+-- WR: write offset answer
+abbrev pub writeOf : Session → ℕ → ℕ → ℕ → Effect
+writeOf s sequence offset value =
+    let w = registers-written.writeOf (s .engine) offset value in
+    record {
+      session = withEngine s sequence (w .engine);
+      line = record { sequence = sequence; word = Write; first = offset; second = w .answer };
+    }
+
+-- RD: read offset value, or noread offset answer
+abbrev pub readOf : Session → ℕ → ℕ → Effect
+readOf s sequence offset =
+    let v = registers-read.readOf (s .engine) offset in
+    record {
+      session = withSequence s sequence;
+      line = when (eqb (v .answer) 0) (record { sequence = sequence; word = Read; first = offset; second = v .value })
+          (record { sequence = sequence; word = NoRead; first = offset; second = v .answer });
+    }
+
+-- AR: bus count lowest-flag; bits other than 0, 1 and 2: 13
+abbrev pub clockOf : Session → ℕ → ℕ → Clock → ℕ → Effect
+clockOf s sequence bits clock position =
+    let c = bus.busClockOf (s .monitor) (s .engine .settings .width) (s .engine .settings .beats) clock in
+    when (ltb 7 bits) (badOf s 13 position)
+    (when (eqb (c .number) 0)
+    (record {
+      session = record { engine = s .engine; monitor = c .monitor; sequence = sequence; windows = s .windows; mode = s .mode };
+      line = record { sequence = sequence; word = Bus; first = c .count; second = bus.lowestOf (c .monitor) };
+    })
+    (badOf s (c .number) position))

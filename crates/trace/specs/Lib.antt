@@ -1,0 +1,4 @@
+pub mod Effect
+pub mod Stepping
+pub mod Turn
+pub mod Pass

@@ -1,0 +1,64 @@
+-- Document 01, "Trace and listing": the listing, line after line.
+use Prim.Native.Nat.{ℕ, zero, suc, _+_, _-_, _*_}
+use mathlib.Core.Path.{_≡_}
+use mathlib.Core.Bool.{Bool, true, false}
+use mathlib.Core.List.{List, [], _++_}
+use lib.ListN.{length, replicate}
+use lib.Seq.{sets}
+use lib.Dec.{leb, ltb}
+use Rattle.kit.specs.Choice.{when}
+use Rattle.listing.specs.Line.{lineOf, headerOf}
+use Rattle.record.specs.Claims.{longest}
+use Rattle.trace.specs.declared.session.Mode.{Mode}
+use Rattle.trace.specs.declared.session.Mode.the-variants.{Records, Steps, Over}
+use Rattle.trace.specs.declared.session.Session.{Session}
+use Rattle.trace.specs.declared.pass.Passed.{Passed}
+use Rattle.trace.specs.Effect.{startOf}
+use Rattle.trace.specs.Turn.{turnOf}
+
+-- a turn can be taken: a step is under way, or a whole record is left, or at the trace's end any byte
+abbrev pub readyOf : Mode → ℕ → Bool → Bool
+readyOf (Steps n taken) left ended = true
+readyOf Over left ended = false
+readyOf Records left ended = when ended (ltb 0 left) (leb longest left)
+
+-- a replay so far: the session, the next record's place, memory, windows, and the text of the lines
+pub record Replay : Type 0 where
+  pub session : Session
+  pub at : ℕ
+  pub memory : List ℕ
+  pub windows : List ℕ
+  pub text : List ℕ
+
+abbrev pub begin : Session → List ℕ → List ℕ → Replay
+begin s m w = record { session = s; at = 0; memory = m; windows = w; text = [] }
+
+-- one turn more, on the part of a trace that stands at `base`
+unfoldable pub turnOn : ℕ → List ℕ → Replay → Replay
+turnOn base input r =
+    let t = turnOf (r .session) (base + r .at) input (r .at) (r .memory) (r .windows) in
+    record { session = t .session; at = t .at; memory = t .memory; windows = t .windows; text = r .text ++ lineOf (t .line) }
+
+-- n turns
+unfoldable pub turnsOf : ℕ → ℕ → List ℕ → Replay → Replay
+turnsOf zero base input r = r
+turnsOf (suc n) base input r = turnOn base input (turnsOf n base input r)
+
+-- some number of turns was taken, and the buffer holds the text of their lines, as far as it was put
+pub record Passes (s : Session) (base : ℕ) (input : List ℕ) (ended : Bool) (m w out : List ℕ) (r : Passed) (m′ w′ out′ : List ℕ) : Type 0 where
+  pub turns : ℕ
+  pub text : List ℕ
+  pub ends : record { session = r .session; at = r .at; memory = m′; windows = w′; text = text } ≡ turnsOf turns base input (begin s m w)
+  pub stored : out′ ≡ sets out 0 text
+  pub put : r .put ≡ length text
+  -- nothing that could be done was left: the buffer is full, or no turn can be taken
+  pub stops : leb (r .put + 64) (length out) ≡ true → readyOf (r .session .mode) (length input - r .at) ended ≡ false
+
+-- the listing of a whole trace: the header, and turns until none can be taken
+unfoldable pub listFrom : ℕ → List ℕ → Replay → List ℕ
+listFrom zero input r = r .text
+listFrom (suc n) input r = elim (readyOf (r .session .mode) (length input - r .at) true) [ true ↦ listFrom n input (turnOn 0 input r) | false ↦ r .text ]
+
+-- a record is at least 8 bytes and gives at most 65,536 lines
+unfoldable pub listingOf : List ℕ → List ℕ
+listingOf input = headerOf ++ listFrom (65536 * (length input + 1)) input (begin startOf (replicate 32768 0) (replicate 32 0))

@@ -1,0 +1,204 @@
+// What each record but ST does and prints. A record that is refused has no effect: its line is the last.
+use crate::session::Effect;
+use crate::session::Mode;
+use crate::session::Session;
+use engine::read::read;
+use engine::state::Settings;
+use engine::state::fresh;
+use engine::write::write;
+use kit::answer::number;
+use kit::limits::MOST_WINDOWS;
+use kit::settings::legal;
+use listing::line::Line;
+use listing::word::Word;
+use monitor::clock::Clock;
+use monitor::monitor::bus_clock;
+ghost use mathlib.Core.Path.{_≡_};
+ghost use Prim.Native.Nat.{_+_, _≤_};
+ghost use lib.ListN.{length};
+ghost use Rattle.trace.specs.Effect.{Effected, effected, badOf, settingsOf, memoryOf, windowOf, writeOf, readOf, clockOf};
+
+// The last good sequence number, the answer and the mark's position; the replay is over.
+pub fn bad(session: Session, answer: u32, position: u64) -> Effect
+    ensures { λ r. ⌜ r ≡ badOf session answer position ⌝ }
+{
+    let line = Line {
+        sequence: session.sequence,
+        word: Word::Bad,
+        first: answer as u64,
+        second: position,
+    };
+    let session = Session {
+        mode: Mode::Over,
+        ..session
+    };
+    Effect { session, line }
+}
+
+pub fn settings(session: Session, sequence: u32, width: u32, beats: u32, position: u64) -> Effect
+    ensures { λ r. ⌜ r ≡ settingsOf session sequence width beats position ⌝ }
+{
+    if !legal(width, beats) {
+        return bad(session, 1, position);
+    }
+    let engine = fresh(Settings { width, beats });
+    let line = Line {
+        sequence,
+        word: Word::Set,
+        first: width as u64,
+        second: beats as u64,
+    };
+    let session = Session {
+        engine,
+        sequence,
+        ..session
+    };
+    Effect { session, line }
+}
+
+// The record's bytes stand in `input` from the place `from` on.
+pub fn memory(
+    session: Session,
+    sequence: u32,
+    address: u32,
+    count: u32,
+    position: u64,
+    input: &[u8],
+    from: usize,
+    memory: &mut [u8],
+) -> Effect
+    requires { ⌜ from + count ≤ length (now input) ⌝ }
+    ensures { λ r. ⌜ effected r (now (memory .exit)) ≡ memoryOf session sequence address count position (now (input .entry)) from (now (memory .entry)) ⌝ }
+{
+    let start = address as usize;
+    let end = start + count as usize;
+    if memory.len() < end {
+        return bad(session, 12, position);
+    }
+    let from_end = from + count as usize;
+    bytes::copy(&input[from..from_end], &mut memory[start..end]);
+    let line = Line {
+        sequence,
+        word: Word::Memory,
+        first: address as u64,
+        second: count as u64,
+    };
+    let session = Session {
+        sequence,
+        ..session
+    };
+    Effect { session, line }
+}
+
+pub fn window(
+    session: Session,
+    sequence: u32,
+    start: u32,
+    count: u32,
+    position: u64,
+    windows: &mut [u32],
+) -> Effect
+    requires { ⌜ 32 ≤ length (now windows) ⌝ }
+    ensures { λ r. ⌜ effected r (now (windows .exit)) ≡ windowOf session sequence start count position (now (windows .entry)) ⌝ }
+{
+    let used = session.windows as usize;
+    if MOST_WINDOWS <= used {
+        return bad(session, 6, position);
+    }
+    windows[2 * used] = start;
+    windows[2 * used + 1] = count;
+    let line = Line {
+        sequence,
+        word: Word::Window,
+        first: start as u64,
+        second: count as u64,
+    };
+    let session = Session {
+        sequence,
+        windows: session.windows + 1,
+        ..session
+    };
+    Effect { session, line }
+}
+
+// A write that is refused prints its answer and goes on.
+pub fn register_write(session: Session, sequence: u32, offset: u32, value: u32) -> Effect
+    ensures { λ r. ⌜ r ≡ writeOf session sequence offset value ⌝ }
+{
+    let engine = session.engine;
+    let written = write(engine, offset, value);
+    let answer = written.answer;
+    let engine = written.engine;
+    let line = Line {
+        sequence,
+        word: Word::Write,
+        first: offset as u64,
+        second: number(answer) as u64,
+    };
+    let session = Session {
+        engine,
+        sequence,
+        ..session
+    };
+    Effect { session, line }
+}
+
+// A read that is refused prints `noread` with its answer and goes on.
+pub fn register_read(session: Session, sequence: u32, offset: u32) -> Effect
+    ensures { λ r. ⌜ r ≡ readOf session sequence offset ⌝ }
+{
+    let engine = session.engine;
+    let reading = read(engine, offset);
+    let answer = reading.answer;
+    let answer = number(answer);
+    let session = Session {
+        sequence,
+        ..session
+    };
+    if answer == 0 {
+        let line = Line {
+            sequence,
+            word: Word::Read,
+            first: offset as u64,
+            second: reading.value as u64,
+        };
+        return Effect { session, line };
+    }
+    let line = Line {
+        sequence,
+        word: Word::NoRead,
+        first: offset as u64,
+        second: answer as u64,
+    };
+    Effect { session, line }
+}
+
+// Bits other than reset-high, valid and ready are out of range, as a field can be.
+pub fn clock(session: Session, sequence: u32, bits: u32, clock: Clock, position: u64) -> Effect
+    ensures { λ r. ⌜ r ≡ clockOf session sequence bits clock position ⌝ }
+{
+    if 7 < bits {
+        return bad(session, 13, position);
+    }
+    let monitor = session.monitor;
+    let settings = session.engine.settings;
+    let clocked = bus_clock(monitor, settings.width, settings.beats, clock);
+    let answer = clocked.answer;
+    let answer = number(answer);
+    if answer != 0 {
+        return bad(session, answer, position);
+    }
+    let monitor = clocked.monitor;
+    let line = Line {
+        sequence,
+        word: Word::Bus,
+        first: clocked.count as u64,
+        second: monitor.lowest() as u64,
+    };
+    let session = Session {
+        monitor,
+        sequence,
+        ..session
+    };
+    Effect { session, line }
+}

@@ -1,0 +1,128 @@
+-- The claims of specs/Calls.antt: no step along any acts is refused, and a run is its steps.
+use mathlib.Core.Path.{_≡_, refl, sym, subst, _∙_}
+use Prim.Native.Nat.{ℕ, zero, suc, _+_, _-_, _<_}
+use mathlib.Core.Bool.{Bool, true, false}
+use mathlib.Core.List.{List, [], _∷_}
+use native.Mathlib.Omega.{arith}
+use lib.ListN.{length}
+use lib.Dec.{eqb}
+use borrow.Author.Tests.{le-ltb}
+use Rattle.kit.specs.Limits.{addressEnd}
+use Rattle.kit.specs.Settings.{legalSettings}
+use Rattle.kit.specs.Word.{wordAt}
+use Rattle.kit.proofs.Choice.{cases, yes, no}
+use Rattle.memory.specs.declared.window.Window.{Window}
+use Rattle.memory.specs.declared.verdict.Verdict.{Verdict}
+use Rattle.memory.specs.declared.verdict.Verdict.the-variants.{Okay, Slave as SlaveError, Decode as DecodeError}
+use Rattle.memory.specs.Verdict.{groupOf, worse}
+use Rattle.engine.specs.declared.state.Settings.{Settings}
+use Rattle.engine.specs.declared.state.Simple.{Simple}
+use Rattle.engine.specs.declared.state.Engine.{Engine}
+use Rattle.engine.specs.declared.state.Transfer.{Transfer}
+use Rattle.engine.specs.declared.state.Outcome.{Outcome}
+use Rattle.engine.specs.declared.state.Outcome.the-variants.{Complete, Internal, Slave, Decode}
+use Rattle.engine.specs.declared.state.Phase.{Phase}
+use Rattle.engine.specs.declared.state.Phase.the-variants.{Idle, Fetch, Move, Update}
+use Rattle.engine.specs.State.{busyOf}
+use Rattle.engine.specs.Write.{bit}
+use Rattle.engine.proofs.Writes.{write-keeps-settings, write-keeps-words, write-keeps-well-formed}
+use Rattle.steps.specs.declared.event.Advanced.{Advanced}
+use Rattle.steps.specs.Step.{Next, takeOf, fetchBy, stopOf, moveBy, settledOf, updateBy, advanceBy, advanceOf}
+use Rattle.steps.specs.Run.{Walk, begun, ended, walkFrom, refusalOf}
+use Rattle.steps.proofs.Kept.{advance-settings, advance-well-formed}
+use Rattle.claims.specs.Transfers.{Act, step, write, read, act, after, steps, Own, left}
+use Rattle.claims.specs.Calls.{Sound, Accept, stepsOf, Run}
+
+-- ---- no step is refused
+
+-- steps never change SA, DA and BTT
+advance-simple : (s : Engine) (m : List ℕ) (windows : List Window) → advanceOf s m windows .engine .simple ≡ s .simple
+unfolding advanceOf takeOf
+advance-simple s m windows = go (s .phase)
+  where
+    P : Engine → Type 0
+    P x = x .simple ≡ s .simple
+
+    fetched : (v : Verdict) → fetchBy s m v .engine .simple ≡ s .simple
+    fetched Okay = cases (λ (r : Advanced). r .engine .simple ≡ s .simple) (bit 31 (wordAt m (s .chain .current + 0x1C))) (λ _. refl) (λ _. refl)
+    fetched SlaveError = refl
+    fetched DecodeError = refl
+
+    moved : (t : Transfer) (from at n : ℕ) (v : Verdict) → moveBy s t m from at n v .engine .simple ≡ s .simple
+    moved t from at n Okay = cases P (eqb (t .moved + n) (t .total)) (λ _. cases P (s .control .chain) (λ _. refl) (λ _. refl)) (λ _. refl)
+    moved t from at n SlaveError = cases P (s .control .chain) (λ _. refl) (λ _. refl)
+    moved t from at n DecodeError = cases P (s .control .chain) (λ _. refl) (λ _. refl)
+
+    settled : (o : Outcome) → settledOf s o .simple ≡ s .simple
+    settled Complete = cases P (eqb (s .chain .current) (s .chain .tail)) (λ _. refl) (λ _. refl)
+    settled Internal = refl
+    settled Slave = refl
+    settled Decode = refl
+
+    updated : (o : Outcome) (v : Verdict) → updateBy s o m v .engine .simple ≡ s .simple
+    updated o Okay = settled o
+    updated o SlaveError = refl
+    updated o DecodeError = refl
+
+    go : (p : Phase) → advanceBy s m windows p .engine .simple ≡ s .simple
+    go Idle = refl
+    go Fetch = fetched (groupOf (length m) windows (s .chain .current) 32)
+    go (Move t) =
+        moved t (t .source + t .moved) (t .destination + t .moved) (stopOf s t - (t .destination + t .moved))
+        (worse (groupOf (length m) windows (t .source + t .moved) (stopOf s t - (t .destination + t .moved)))
+        (groupOf (length m) windows (t .destination + t .moved) (stopOf s t - (t .destination + t .moved))))
+    go (Update o) = updated o (groupOf (length m) windows (s .chain .current + 0x1C) 4)
+
+pub accept : Accept
+unfolding refusalOf
+accept s [] h p = (tt, h)
+accept s (step m windows ∷ more) h (bytes, small, few, p) =
+    let settings = advance-settings s m windows in
+    let simple = advance-simple s m windows in
+    let next : Sound (act s (step m windows)) = record {
+      legal = subst (λ (x : Settings). legalSettings (x .width) (x .beats) ≡ true) (sym settings) (h .legal);
+      well = advance-well-formed s m windows (h .legal) small bytes (h .well);
+      source = subst (λ (x : Simple). x .source < addressEnd) (sym simple) (h .source);
+      destination = subst (λ (x : Simple). x .destination < addressEnd) (sym simple) (h .destination);
+    } in
+    let (rest, end) = accept (act s (step m windows)) more next p in
+    ((sym (yes _ (h .legal) (no _ (le-ltb _ _ small) (no _ (le-ltb _ _ few) (yes _ (h .well) refl)))), rest), end)
+accept s (write offset value ∷ more) h (small, p) =
+    let settings = write-keeps-settings s offset value in
+    let w = write-keeps-words s offset value small (record { source-word = h .source; destination-word = h .destination }) in
+    accept (act s (write offset value)) more
+    (record {
+      legal = subst (λ (x : Settings). legalSettings (x .width) (x .beats) ≡ true) (sym settings) (h .legal);
+      well = write-keeps-well-formed s offset value (record { source-word = h .source; destination-word = h .destination }) (h .well);
+      source = w .source-word;
+      destination = w .destination-word;
+    }) p
+accept s (read offset ∷ more) h p = accept s more h p
+
+-- ---- a run is its steps
+
+-- the same, after i steps
+record Walks (i : ℕ) (s : Engine) (m : List ℕ) (run : Walk) (acts : List Act) : Type 0 where
+  own : Own m s acts
+  engine : run .engine ≡ after s acts
+  memory : run .memory ≡ left m s acts
+  count : run .steps ≡ i + steps acts
+
+walks : (n i : ℕ) (r : Next) (windows : List Window) → Walks i (r .engine) (r .memory) (walkFrom n i r windows) (stepsOf n (r .engine) (r .memory) windows)
+unfolding walkFrom stepsOf
+walks zero i r windows = record { own = tt; engine = refl; memory = refl; count = omega arith }
+walks (suc n) i r windows = turn (walks n (suc i) next windows) (busyOf (r .engine .phase))
+  where
+    next : Next
+    next = advanceOf (r .engine) (r .memory) windows
+
+    turn : Walks (suc i) (next .engine) (next .memory) (walkFrom n (suc i) next windows) (stepsOf n (next .engine) (next .memory) windows) → (busy : Bool)
+        → Walks i (r .engine) (r .memory) (elim busy [ true ↦ walkFrom n (suc i) next windows | false ↦ ended i r ])
+        (elim busy [ true ↦ step (r .memory) windows ∷ stepsOf n (next .engine) (next .memory) windows | false ↦ [] ])
+    turn k true = record { own = (refl, k .own); engine = k .engine; memory = k .memory; count = k .count ∙ omega arith }
+    turn k false = record { own = tt; engine = refl; memory = refl; count = omega arith }
+
+pub run : Run
+run n s m windows =
+    let k = walks n 0 (begun s m) windows in
+    record { own = k .own; engine = k .engine; memory = k .memory; count = k .count ∙ omega arith }

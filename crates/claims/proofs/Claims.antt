@@ -1,0 +1,82 @@
+-- The claims of specs/Transfers.antt: every transfer that ends without error or reset covers, copies, and takes its steps.
+use mathlib.Core.Path.{_≡_, refl, sym, ap, subst, _∙_}
+use mathlib.Core.Bool.{Bool, true, false}
+use mathlib.Core.Logic.{_⊎_, inl, inr}
+use mathlib.Core.List.{List, _∷_}
+use Prim.Native.Nat.{ℕ, _+_, _≤_}
+use native.Mathlib.Nat.{add-zero}
+use native.Mathlib.Omega.{arith}
+use lib.ListN.{length}
+use Rattle.kit.specs.Choice.{when}
+use Rattle.kit.proofs.Choice.{decide}
+use Rattle.kit.proofs.Legal.{legal}
+use Rattle.cut.specs.declared.Burst.{Burst}
+use Rattle.cut.specs.Cut.{cut}
+use Rattle.cut.specs.Legal.{AllLegal, Tiles}
+use Rattle.cut.proofs.Shortest.{well-cut}
+use Rattle.engine.specs.declared.state.Engine.{Engine}
+use Rattle.engine.specs.declared.state.Transfer.{Transfer}
+use Rattle.engine.specs.State.{errorSetOf}
+use Rattle.claims.specs.Transfers.{Act, act, after, bursts, steps, Completes, Begin, Empty, Cover, Copied, Copy, Steps}
+use Rattle.claims.proofs.Course.{Goes, settle, course}
+use Rattle.claims.proofs.Starts.{Started, started, barren}
+
+module _ (s : Engine) (t : Transfer) (first : Act) (rest : List Act) (c : Completes s t first rest) where
+  begun : Started s t first
+  begun = started s t first rest c
+
+  whole : Goes s t 0 (act s first) rest
+  whole = let b = begun in course s t (c .legal) rest (act s first) 0 (b .some) (b .now) (c .runs) (c .good)
+
+  moved : bursts s (first ∷ rest) ≡ cut (s .settings .width) (s .settings .beats) (t .destination) (t .destination + t .total)
+  moved =
+      begun .moves rest ∙ whole .moves
+      ∙ ap (λ (a : ℕ). cut (s .settings .width) (s .settings .beats) a (t .destination + t .total)) (add-zero (t .destination))
+
+  -- a fetch and an update in chain mode
+  taken : steps (first ∷ rest) ≡ when (s .control .chain) 1 0 + (length (bursts s (first ∷ rest)) + when (s .control .chain) 1 0)
+  taken = begun .takes rest ∙ ap (λ (n : ℕ). when (s .control .chain) 1 0 + n) (whole .takes ∙ ap (λ (b : List Burst). length b + when (s .control .chain) 1 0) (sym (begun .moves rest ∙ whole .moves)))
+
+pub begin : Begin
+begin s t first rest c = begun s t first rest c .start
+
+pub empty : Empty
+empty s o first rest well out e runs = go (decide (errorSetOf (after (act s first) rest .status .bit)))
+  where
+    go : (errorSetOf (after (act s first) rest .status .bit) ≡ true) ⊎ (errorSetOf (after (act s first) rest .status .bit) ≡ false)
+        → errorSetOf (after (act s first) rest .status .bit) ≡ true
+    go (inl error) = error
+    go (inr good) =
+        let b = barren s o well out first e in
+        let t : Transfer = record { source = 0; destination = 0; total = 0; moved = 0 } in
+        let complete = settle s t (b .chain) rest (act s first) o (b .now t) runs good .0 in
+        absurd (let z : _≡_ {A = ℕ} 0 1 = cc (b .internal ∙ complete) in omega arith)
+
+pub cover : Cover
+cover s t first rest c =
+    let w = s .settings .width in
+    let l = s .settings .beats in
+    let g = legal w l (c .legal) in
+    let e = sym (moved s t first rest c) in
+    let p = well-cut w l (g .width-positive) (g .beats-positive) (t .destination) (t .destination + t .total) (omega arith) in
+    record {
+      cuts = moved s t first rest c;
+      legal = subst (AllLegal w l) e (p .legal);
+      tiles = subst (Tiles (t .destination) (t .destination + t .total)) e (p .tiles);
+      shortest = λ others a h. subst (λ (b : List Burst). length b ≤ length others) e (p .shortest others a h);
+    }
+
+pub copy : Copy
+copy s t first rest m c a =
+    let b = begun s t first rest c in
+    subst (Copied s t m) (sym (b .leaves m rest (a .own)))
+    (whole s t first rest c .copies m m (b .owned m rest (a .own))
+    (record { apart = a .apart; misses = a .misses; size = refl; bytes = λ i h. absurd (omega arith); others = λ x o. refl }))
+
+pub count : Steps
+count s t first rest c =
+    let e = taken s t first rest c in
+    record {
+      chain = λ chain. omega (arith, e, ap (λ (x : Bool). when {A = ℕ} x 1 0) chain);
+      simple = λ simple. omega (arith, e, ap (λ (x : Bool). when {A = ℕ} x 1 0) simple);
+    }

@@ -1,0 +1,186 @@
+-- How a transfer starts: an engine that is in no transfer gets into one by a fetch, or by a write of BTT, alone.
+use mathlib.Core.Path.{_≡_, refl, sym, ap, subst, _∙_}
+use mathlib.Core.Logic.{_⊎_, inl, inr}
+use mathlib.Core.Bool.{Bool, true, false}
+use mathlib.Core.List.{List, _∷_, _++_}
+use Prim.Native.Nat.{ℕ, _+_, _%_, _^_, _<_}
+use native.Mathlib.Omega.{arith}
+use lib.ListN.{length}
+use lib.Dec.{eqb}
+use borrow.Author.Tests.{eqb-false}
+use Rattle.kit.specs.Choice.{when}
+use Rattle.kit.specs.Word.{wordAt}
+use Rattle.kit.proofs.Choice.{cases, never}
+use Rattle.memory.specs.declared.window.Window.{Window}
+use Rattle.memory.specs.declared.verdict.Verdict.{Verdict}
+use Rattle.memory.specs.declared.verdict.Verdict.the-variants.{Okay, Slave as SlaveError, Decode as DecodeError}
+use Rattle.memory.specs.Verdict.{groupOf}
+use Rattle.engine.specs.declared.state.Engine.{Engine}
+use Rattle.engine.specs.declared.state.Transfer.{Transfer}
+use Rattle.engine.specs.declared.state.Outcome.{Outcome}
+use Rattle.engine.specs.declared.state.Outcome.the-variants.{Internal}
+use Rattle.engine.specs.declared.state.Phase.{Phase}
+use Rattle.engine.specs.declared.state.Phase.the-variants.{Idle, Fetch, Move, Update}
+use Rattle.engine.specs.State.{phaseFits, wellFormedOf}
+use Rattle.engine.specs.Write.{bit, writeOf}
+use Rattle.engine.proofs.WellFormed.{well-formed}
+use Rattle.steps.specs.declared.event.Event.{Event}
+use Rattle.steps.specs.declared.event.Event.the-variants.{Fetch as Fetched}
+use Rattle.steps.specs.declared.event.Advanced.{Advanced}
+use Rattle.steps.specs.Step.{Next, next, describedOf, takeOf, fetchBy, advanceBy, advanceOf}
+use Rattle.claims.specs.Transfers.{Act, step, write, read, act, burstsOf, bursts, steps, inTransfer, Own, left, Completes, Start, fetch, count}
+use Rattle.claims.proofs.Course.{movedTo, Now}
+use Rattle.claims.proofs.Writes.{Same, asked, Counts, Does, keeps, fresh, waits, starts, write-does}
+
+module _ (s : Engine) (out : inTransfer (s .phase) ≡ false) where
+  -- ---- a step
+
+  -- what the descriptor in memory m says
+  abbrev described : List ℕ → Phase
+  described m = describedOf (wordAt m (s .chain .current + 0x08)) (wordAt m (s .chain .current + 0x10)) (wordAt m (s .chain .current + 0x18) % 2 ^ 23)
+
+  -- the step to r fetched it
+  record Took (m : List ℕ) (r : Next) : Type 0 where
+    fetching : s .phase ≡ Fetch
+    event : r .event ≡ Fetched (s .chain .current)
+    memory : r .memory ≡ m
+    same : Same s (r .engine)
+    phase : r .engine .phase ≡ described m
+
+  abbrev StepStarts : List ℕ → Next → Type 0
+  StepStarts m r = (inTransfer (r .engine .phase) ≡ false) ⊎ Took m r
+
+  taken : (m : List ℕ) → s .phase ≡ Fetch → (v : Verdict) → StepStarts m (next (fetchBy s m v) m)
+  unfolding takeOf
+  taken m e Okay =
+      cases (λ (r : Advanced). StepStarts m (next r m)) (bit 31 (wordAt m (s .chain .current + 0x1C))) (λ _. inl refl)
+      (λ _. inr (record { fetching = e; event = refl; memory = refl; same = record { settings = refl; mode = refl; current = refl }; phase = refl }))
+  taken m e SlaveError = inl refl
+  taken m e DecodeError = inl refl
+
+  by-phase : (m : List ℕ) (windows : List Window) (p : Phase) → s .phase ≡ p → StepStarts m (advanceBy s m windows p)
+  by-phase m windows Idle e = inl out
+  by-phase m windows Fetch e = taken m e (groupOf (length m) windows (s .chain .current) 32)
+  by-phase m windows (Move u) e = absurd (never (sym out ∙ ap inTransfer e))
+  by-phase m windows (Update o) e = absurd (never (sym out ∙ ap inTransfer e))
+
+  step-starts : (m : List ℕ) (windows : List Window) → StepStarts m (advanceOf s m windows)
+  unfolding advanceOf
+  step-starts m windows = by-phase m windows (s .phase) refl
+
+  -- ---- a write
+
+  write-starts : (offset v : ℕ) → (inTransfer (writeOf s offset v .engine .phase) ≡ false) ⊎ Counts s offset v (writeOf s offset v .engine)
+  write-starts offset v = go (write-does s offset v)
+    where
+      go : {x : Engine} → Does s offset v x → (inTransfer (x .phase) ≡ false) ⊎ Counts s offset v x
+      go (keeps e _) = inl (ap inTransfer e ∙ out)
+      go (fresh _ e) = inl (ap inTransfer e)
+      go (waits _ e) = inl e
+      go (starts c) = inr c
+
+-- ---- what follows for the transfer t
+
+-- a fetch only happens in chain mode
+chain-mode : (s : Engine) → wellFormedOf s ≡ true → s .phase ≡ Fetch → s .control .chain ≡ true
+chain-mode s well e = subst (λ (p : Phase). phaseFits p (s .control .chain) ≡ true) e (well-formed s well .phase-fits)
+
+module _ (s : Engine) (t : Transfer) where
+  -- a phase that is in a transfer is not out of one
+  inside : {p : Phase} → p ≡ Move t → inTransfer p ≡ false → ⊥
+  inside e out = never (sym out ∙ ap inTransfer e)
+
+  -- a description that leads to the move of t, by its count
+  says : (source destination total : ℕ) → describedOf source destination total ≡ Move t
+      → (t ≡ record { source = source; destination = destination; total = total; moved = 0 }) × (0 < total)
+  says source destination total =
+      cases (λ (p : Phase). p ≡ Move t → (t ≡ record { source = source; destination = destination; total = total; moved = 0 }) × (0 < total)) (eqb total 0)
+      (λ _ e. absurd (let z : _≡_ {A = ℕ} 0 1 = cc in omega arith))
+      (λ z e. (cc, omega (arith, eqb-false total 0 z)))
+
+  -- the first act of a transfer: it is a step exactly in chain mode, moves nothing and leaves the memory
+  pub record Started (first : Act) : Type 0 where
+    pub start : Start s t first
+    pub now : Now s t (Move (movedTo t 0)) (act s first)
+    pub some : 0 < t .total
+    pub moves : (acts : List Act) → bursts s (first ∷ acts) ≡ bursts (act s first) acts
+    pub takes : (acts : List Act) → steps (first ∷ acts) ≡ when (s .control .chain) 1 0 + steps acts
+    pub owned : (m : List ℕ) (acts : List Act) → Own m s (first ∷ acts) → Own m (act s first) acts
+    pub leaves : (m : List ℕ) (acts : List Act) → Own m s (first ∷ acts) → left m s (first ∷ acts) ≡ left m (act s first) acts
+
+  started-now : (x : Engine) → Same s x → t .moved ≡ 0 → x .phase ≡ Move t → Now s t (Move (movedTo t 0)) x
+  started-now x same unmoved e =
+      record { phase = e ∙ ap (λ (k : ℕ). Move (movedTo t k)) unmoved; settings = same .settings; mode = same .mode; current = same .current }
+
+  by-step : (m : List ℕ) (windows : List Window) → wellFormedOf s ≡ true → (out : inTransfer (s .phase) ≡ false)
+      → advanceOf s m windows .engine .phase ≡ Move t → StepStarts s out m (advanceOf s m windows) → Started (step m windows)
+  by-step lent windows well out e (inl o) = absurd (inside e o)
+  by-step lent windows well out e (inr k) =
+      let c = s .chain .current in
+      let total = wordAt lent (c + 0x18) % 2 ^ 23 in
+      let (d, some) = says (wordAt lent (c + 0x08)) (wordAt lent (c + 0x10)) total (sym (k .phase) ∙ e) in
+      let chain = chain-mode s well (k .fetching) in
+      let x = advanceOf s lent windows .engine in
+      record {
+        start = fetch lent windows (k .fetching) chain (k .event) d;
+        now = started-now x (k .same) (ap (λ (y : Transfer). y .moved) d) e;
+        some = subst (λ (n : ℕ). 0 < n) (sym (ap (λ (y : Transfer). y .total) d)) some;
+        moves = λ acts. ap (λ (y : Event). burstsOf y ++ bursts x acts) (k .event);
+        takes = λ acts. omega (arith, ap (λ (y : Bool). when {A = ℕ} y 1 0) chain);
+        owned = λ m acts own. subst (λ (y : List ℕ). Own y x acts) (k .memory ∙ own .0) (own .1);
+        leaves = λ m acts own. ap (λ (y : List ℕ). left y x acts) (k .memory ∙ own .0);
+      }
+
+  by-write : (offset v : ℕ) → writeOf s offset v .engine .phase ≡ Move t
+      → (inTransfer (writeOf s offset v .engine .phase) ≡ false) ⊎ Counts s offset v (writeOf s offset v .engine) → Started (write offset v)
+  by-write offset v e (inl o) = absurd (inside e o)
+  by-write offset v e (inr k) =
+      let d : t ≡ asked s offset v = cc (sym e ∙ k .phase) in
+      let nonzero = eqb-false (v % 2 ^ 23) 0 (k .nonzero) in
+      record {
+        start = subst (λ (x : ℕ). Start s t (write x v)) (sym (k .place)) (count v (k .idle) (k .simple) d);
+        now = started-now (writeOf s offset v .engine) (k .same) (ap (λ (y : Transfer). y .moved) d) e;
+        some = omega (arith, ap (λ (y : Transfer). y .total) d, nonzero);
+        moves = λ acts. refl;
+        takes = λ acts. omega (arith, ap (λ (y : Bool). when {A = ℕ} y 1 0) (k .simple));
+        owned = λ m acts own. own;
+        leaves = λ m acts own. refl;
+      }
+
+  pub started : (first : Act) (rest : List Act) → Completes s t first rest → Started first
+  started (step m windows) rest c = by-step m windows (c .well) (c .before) (c .starts) (step-starts s (c .before) m windows)
+  started (write offset v) rest c = by-write offset v (c .starts) (write-starts s (c .before) offset v)
+  started (read offset) rest c = absurd (inside (c .starts) (c .before))
+
+-- ---- a transfer of nothing
+
+module _ (s : Engine) (o : Outcome) (well : wellFormedOf s ≡ true) (out : inTransfer (s .phase) ≡ false) where
+  outside : {p : Phase} → p ≡ Update o → inTransfer p ≡ false → ⊥
+  outside e x = never (sym x ∙ ap inTransfer e)
+
+  zero-count : (source destination total : ℕ) → describedOf source destination total ≡ Update o → Internal ≡ o
+  zero-count source destination total =
+      cases (λ (p : Phase). p ≡ Update o → Internal ≡ o) (eqb total 0) (λ _ e. cc) (λ _ e. absurd (let z : _≡_ {A = ℕ} 0 1 = cc in omega arith))
+
+  -- an update without a move is of a count of 0, in chain mode
+  pub record Barren (first : Act) : Type 0 where
+    pub internal : Internal ≡ o
+    pub chain : s .control .chain ≡ true
+    pub now : (t : Transfer) → Now s t (Update o) (act s first)
+
+  pub barren : (first : Act) → act s first .phase ≡ Update o → Barren first
+  barren (step m windows) e = go (step-starts s out m windows)
+    where
+      go : StepStarts s out m (advanceOf s m windows) → Barren (step m windows)
+      go (inl x) = absurd (outside e x)
+      go (inr k) = record {
+        internal = zero-count (wordAt m (s .chain .current + 0x08)) (wordAt m (s .chain .current + 0x10)) (wordAt m (s .chain .current + 0x18) % 2 ^ 23) (sym (k .phase) ∙ e);
+        chain = chain-mode s well (k .fetching);
+        now = λ t. record { phase = e; settings = k .same .settings; mode = k .same .mode; current = k .same .current };
+      }
+  barren (write offset v) e = go (write-starts s out offset v)
+    where
+      go : (inTransfer (writeOf s offset v .engine .phase) ≡ false) ⊎ Counts s offset v (writeOf s offset v .engine) → Barren (write offset v)
+      go (inl x) = absurd (outside e x)
+      go (inr k) = absurd (let z : _≡_ {A = ℕ} 0 1 = cc (sym e ∙ k .phase) in omega arith)
+  barren (read offset) e = absurd (outside e out)

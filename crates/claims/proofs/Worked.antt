@@ -1,0 +1,53 @@
+-- The worked transfers, by computing them.
+use mathlib.Core.Path.{refl}
+use mathlib.Core.Logic.{inl, inr}
+use native.Mathlib.Omega.{arith}
+use Rattle.kit.specs.Settings.{legalWidth, legalBeats}
+use Rattle.kit.proofs.Choice.{never}
+use Rattle.cut.specs.Cut.{reach, burstEnd}
+use Rattle.memory.specs.Windows.{sick}
+use Rattle.memory.specs.Verdict.{groupOf}
+use Rattle.engine.specs.State.{wellFormedOf}
+use Rattle.engine.specs.Write.{registerWrittenOf}
+use Rattle.steps.specs.Step.{takeOf, advanceOf}
+use Rattle.claims.specs.Worked.{SimpleWorked, SimpleCleared, ChainWorked, ChainReplaced}
+
+pub simple-worked : SimpleWorked
+unfolding legalWidth legalBeats reach burstEnd sick groupOf wellFormedOf registerWrittenOf takeOf advanceOf
+simple-worked = record {
+  completes = record {
+    legal = refl;
+    well = refl;
+    before = refl;
+    starts = refl;
+    runs = (refl, refl, (refl, refl, (refl, refl, (refl, refl, (refl, refl, refl)))));
+    good = refl;
+  };
+  alone = record { own = (refl, (refl, tt)); apart = inl (omega arith); misses = λ e. absurd (never e) };
+  moves = refl;
+  takes = refl;
+}
+
+pub simple-cleared : SimpleCleared
+unfolding legalWidth legalBeats reach burstEnd sick groupOf wellFormedOf registerWrittenOf advanceOf
+simple-cleared = (refl, refl, refl)
+
+pub chain-worked : ChainWorked
+unfolding legalWidth legalBeats reach burstEnd sick groupOf wellFormedOf registerWrittenOf takeOf advanceOf
+chain-worked = record {
+  completes = record {
+    legal = refl;
+    well = refl;
+    before = refl;
+    starts = refl;
+    runs = (refl, refl, (refl, refl, (refl, refl, (refl, refl, (refl, refl, (refl, refl, refl))))));
+    good = refl;
+  };
+  alone = record { own = (refl, (refl, (refl, (refl, tt)))); apart = inl (omega arith); misses = λ _. inr (omega arith) };
+  moves = refl;
+  takes = refl;
+}
+
+pub chain-replaced : ChainReplaced
+unfolding legalWidth legalBeats reach burstEnd sick groupOf wellFormedOf registerWrittenOf takeOf advanceOf
+chain-replaced = (refl, refl)

@@ -1,0 +1,23 @@
+use mathlib.Core.Path.{sym}
+use lib.Seq.{length-take-le}
+use borrow.Author.Needs.{needs}
+use Rattle.replay.proofs.send.Statement.{statement}
+use Rattle.replay.proofs.send.Tie as tie
+use Rattle.replay.proofs.send.Reads as reads
+use Rattle.replay.proofs.send.Lts as lts
+use Rattle.io.proofs.write_all.Reads as write-all-reads
+
+returns : tie.Need-returns
+returns c = search needs
+
+slice-aggregate-write-all : tie.Need-slice-aggregate-write-all
+slice-aggregate-write-all c = sym (length-take-le (c .before .before .before .args .put) (c .before .before .before .args .out .now) (search needs))
+
+write-all-requires : tie.Need-write-all-requires
+write-all-requires c κs = search needs
+
+returns-2 : tie.Need-returns-2
+returns-2 c = search needs
+
+pub send-spec : {M : Type 1} → statement M
+send-spec = tie.close (tie.spec returns slice-aggregate-write-all write-all-requires returns-2)

@@ -3,7 +3,9 @@
 
 mod plan;
 mod race;
+mod replay;
 
 fn main() {
     plan::bench();
+    replay::bench(std::path::Path::new("target"));
 }

@@ -1,4 +1,5 @@
-// The cutter: `belikumba_plan` of the C library beside a cutter written by hand in plain Rust.
+// The cutter: `belikumba_plan` of the C library beside two cutters written by hand in plain Rust: the independent
+// program's, which walks twice as the proved one does, and one that counts by a formula and walks once.
 
 use crate::race::{print_heading, print_row, race};
 use std::hint::black_box;
@@ -35,6 +36,12 @@ fn proved(width: u32, beats: u32, start: u32, count: u32, places: &mut [u8]) -> 
 const PAGE: u64 = 4096;
 const MOST_BYTES: u32 = 8_388_607;
 const ADDRESS_END: u64 = 1 << 32;
+
+/// The independent program's cutter, which counts its bursts by walking before it writes, as the proved one does.
+fn independent(width: u32, beats: u32, start: u32, count: u32, places: &mut [u8]) -> Planned {
+    let (answer, bursts) = ::independent::cut::plan_bytes(width, beats, start, count, places);
+    Planned { answer, bursts }
+}
 
 /// The same by hand: the refusals, the number of bursts by a formula, then one walk that stores each burst at once.
 fn plain(width: u32, beats: u32, start: u32, count: u32, places: &mut [u8]) -> Planned {
@@ -133,13 +140,15 @@ pub fn bench() {
         let mut places = vec![0; transfers.iter().map(|t| t.count as usize).max().unwrap_or(0)];
         for (width, beats) in [(4, 16), (128, 256)] {
             let bursts = compare(width, beats, &transfers, &mut places);
-            let times = race(
-                bursts,
-                &mut places[..],
-                |places| plan_all(black_box(proved as Planner), width, beats, &transfers, places),
-                |places| plan_all(black_box(plain as Planner), width, beats, &transfers, places),
-            );
-            print_row(&format!("{size}, width {width}, beats {beats}"), &times);
+            for (name, other) in [("walked", independent as Planner), ("formula", plain as Planner)] {
+                let times = race(
+                    bursts,
+                    &mut places[..],
+                    |places| plan_all(black_box(proved as Planner), width, beats, &transfers, places),
+                    |places| plan_all(black_box(other), width, beats, &transfers, places),
+                );
+                print_row(&format!("{size}, width {width}, beats {beats}, {name}"), &times);
+            }
         }
     }
 }

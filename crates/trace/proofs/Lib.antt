@@ -2,3 +2,4 @@ pub mod Lengths
 pub mod Parts
 pub mod Passing
 pub mod Records
+pub mod Whole

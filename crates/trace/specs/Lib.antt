@@ -2,3 +2,4 @@ pub mod Effect
 pub mod Stepping
 pub mod Turn
 pub mod Pass
+pub mod Whole

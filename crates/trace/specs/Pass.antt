@@ -1,5 +1,5 @@
 -- Document 01, "Trace and listing": the listing, line after line.
-use Prim.Native.Nat.{ℕ, zero, suc, _+_, _-_, _*_}
+use Prim.Native.Nat.{ℕ, zero, suc, _+_, _-_, _*_, _<_}
 use mathlib.Core.Path.{_≡_}
 use mathlib.Core.Bool.{Bool, true, false}
 use mathlib.Core.List.{List, [], _++_}
@@ -44,10 +44,16 @@ unfoldable pub turnsOf : ℕ → ℕ → List ℕ → Replay → Replay
 turnsOf zero base input r = r
 turnsOf (suc n) base input r = turnOn base input (turnsOf n base input r)
 
+-- a turn can be taken on what is left of the part
+abbrev pub readyIn : List ℕ → Bool → Replay → Bool
+readyIn input ended r = readyOf (r .session .mode) (length input - r .at) ended
+
 -- some number of turns was taken, and the buffer holds the text of their lines, as far as it was put
 pub record Passes (s : Session) (base : ℕ) (input : List ℕ) (ended : Bool) (m w out : List ℕ) (r : Passed) (m′ w′ out′ : List ℕ) : Type 0 where
   pub turns : ℕ
   pub text : List ℕ
+  -- each turn could be taken
+  pub ready : (k : ℕ) → k < turns → readyIn input ended (turnsOf k base input (begin s m w)) ≡ true
   pub ends : record { session = r .session; at = r .at; memory = m′; windows = w′; text = text } ≡ turnsOf turns base input (begin s m w)
   pub stored : out′ ≡ sets out 0 text
   pub put : r .put ≡ length text
@@ -57,7 +63,7 @@ pub record Passes (s : Session) (base : ℕ) (input : List ℕ) (ended : Bool) (
 -- the listing of a whole trace: the header, and turns until none can be taken
 unfoldable pub listFrom : ℕ → List ℕ → Replay → List ℕ
 listFrom zero input r = r .text
-listFrom (suc n) input r = elim (readyOf (r .session .mode) (length input - r .at) true) [ true ↦ listFrom n input (turnOn 0 input r) | false ↦ r .text ]
+listFrom (suc n) input r = elim (readyIn input true r) [ true ↦ listFrom n input (turnOn 0 input r) | false ↦ r .text ]
 
 -- a record is at least 8 bytes and gives at most 65,536 lines
 unfoldable pub listingOf : List ℕ → List ℕ

@@ -3,7 +3,7 @@ use Prim.Native.Nat.{_-_}
 use native.Mathlib.Omega.{arith}
 use lib.ListN.{length}
 use borrow.Author.Needs.{needs}
-use borrow.Author.Tests.{not-true}
+use borrow.Author.Tests.{not-true, not-false}
 use Rattle.trace.proofs.Passing.{Passing, passing-begin, passing-turn, passing-on, passing-full, passing-stops}
 use Rattle.trace.proofs.pass.pass.Statement.{statement}
 use Rattle.trace.proofs.pass.pass.Tie as tie
@@ -14,7 +14,7 @@ use Rattle.trace.proofs.pass.ready.Reads as ready-reads
 use Rattle.trace.proofs.turn.turn.Reads as turn-reads
 
 abbrev Inv-loop : tie.InvT-loop
-Inv-loop base input ended memory₀ windows₀ out₀ last session₀ at₀ put₀ memory windows out session at put = Passing base input session₀ memory₀ windows₀ out₀ session at memory windows out put
+Inv-loop base input ended memory₀ windows₀ out₀ last session₀ at₀ put₀ memory windows out session at put = Passing base input ended session₀ memory₀ windows₀ out₀ session at memory windows out put
 
 abbrev μ-loop : tie.MeasureT-loop
 μ-loop base input ended memory₀ windows₀ out₀ last session₀ at₀ put₀ memory windows out session at put = length out₀ - put
@@ -22,7 +22,7 @@ abbrev μ-loop : tie.MeasureT-loop
 returns : tie.Need-returns Inv-loop μ-loop
 returns c =
     let a = c .before .before .before .before .before .args in
-    passing-full (passing-begin (a .base) (a .input .now) (a .session) (a .memory .now) (a .windows .now) (a .out .now)) (a .ended) (omega (arith, c .if1 .taken))
+    passing-full (passing-begin (a .base) (a .input .now) (a .ended) (a .session) (a .memory .now) (a .windows .now) (a .out .now)) (omega (arith, c .if1 .taken))
 
 sub-last : tie.Need-sub-last Inv-loop μ-loop
 sub-last c = search needs
@@ -30,7 +30,7 @@ sub-last c = search needs
 loop-holds : tie.Need-loop-holds Inv-loop μ-loop
 loop-holds c =
     let a = c .before .before .before .before .before .args in
-    passing-begin (a .base) (a .input .now) (a .session) (a .memory .now) (a .windows .now) (a .out .now)
+    passing-begin (a .base) (a .input .now) (a .ended) (a .session) (a .memory .now) (a .windows .now) (a .out .now)
 
 sub-ready : tie.Need-sub-ready Inv-loop μ-loop
 sub-ready c = c .before .loop .inv .within
@@ -58,7 +58,7 @@ loop-less c =
     omega (arith, on, p .room, c .before .before .before .before .before .before .before .before .before .before .before .before .before .before .before .loop-test .taken, c .before .before .before .before .before .before .before .before .before .before .before .before .before .before .before .before .before .if1 .left)
 
 loop-again : tie.Need-loop-again Inv-loop μ-loop
-loop-again c = passing-turn (c .before .before .before .before .before .before .before .before .before .before .before .before .before .before .before .before .loop .inv) (c .before .before .before .before .before .before .before .before .before .before .turn .result) (c .before .before .before .before .before .before .before .before .before .before .turn .ensures) (c .before .before .before .put-line .ensures)
+loop-again c = passing-turn (c .before .before .before .before .before .before .before .before .before .before .before .before .before .before .before .before .loop .inv) (c .before .before .before .before .before .before .before .before .before .before .turn .result) (sym (c .before .before .before .before .before .before .before .before .before .before .before .before .before .before .ready .ensures) ∙ not-false _ (c .before .before .before .before .before .before .before .before .before .before .before .before .before .if2 .left)) (c .before .before .before .before .before .before .before .before .before .before .turn .ensures) (c .before .before .before .put-line .ensures)
 
 same-length : tie.Need-same-length Inv-loop μ-loop
 same-length c = c .before .loop .inv .memory
@@ -70,7 +70,7 @@ same-length-3 : tie.Need-same-length-3 Inv-loop μ-loop
 same-length-3 c = c .before .loop .inv .room
 
 returns-2 : tie.Need-returns-2 Inv-loop μ-loop
-returns-2 c = passing-full (c .before .loop .inv) (c .before .before .before .before .before .before .before .args .ended) (omega (arith, c .loop-test .left, c .before .before .if1 .left))
+returns-2 c = passing-full (c .before .loop .inv) (omega (arith, c .loop-test .left, c .before .before .if1 .left))
 
 same-length-4 : tie.Need-same-length-4 Inv-loop μ-loop
 same-length-4 c = c .before .before .before .loop .inv .memory
@@ -82,7 +82,7 @@ same-length-6 : tie.Need-same-length-6 Inv-loop μ-loop
 same-length-6 c = c .before .before .before .loop .inv .room
 
 returns-3 : tie.Need-returns-3 Inv-loop μ-loop
-returns-3 c = passing-stops (c .before .before .before .loop .inv) (c .before .before .before .before .before .before .before .before .before .args .ended) (sym (c .before .ready .ensures) ∙ not-true _ (c .if2 .taken))
+returns-3 c = passing-stops (c .before .before .before .loop .inv) (sym (c .before .ready .ensures) ∙ not-true _ (c .if2 .taken))
 
 pub pass-spec : {M : Type 1} → statement M
 pass-spec =

@@ -1,0 +1,163 @@
+-- A turn on a part of a trace is a turn on the whole.
+use mathlib.Core.Path.{_≡_, refl, sym, ap, subst, _∙_}
+use Prim.Native.Nat.{ℕ, zero, suc, _+_, _-_, _<_, _≤_}
+use mathlib.Core.Bool.{Bool, true, false}
+use mathlib.Core.List.{List, [], _++_, append-assoc, append-nil}
+use mathlib.Core.Logic.{_⊎_, inl, inr}
+use native.Mathlib.Nat.{add-assoc}
+use native.Mathlib.Omega.{arith}
+use lib.ListN.{length, take, drop, length-append, length-drop}
+use lib.Seq.{sets, drop-append-add, drop-append-le, take-append-le}
+use lib.Dec.{eqb, leb, ltb}
+use borrow.Author.Tests.{leb-true, ltb-true, lt-ltb}
+use Rattle.kit.specs.Choice.{when}
+use Rattle.kit.proofs.Choice.{cases, decide, never}
+use Rattle.record.specs.declared.reading.Body.{Body}
+use Rattle.record.specs.declared.reading.Body.the-variants.{Settings, Memory, Window, Write, Read, Steps, Clock}
+use Rattle.record.specs.declared.reading.Record.{Record}
+use Rattle.record.specs.declared.reading.Reading.{Reading}
+use Rattle.record.specs.declared.reading.Reading.the-variants.{Found, Refused}
+use Rattle.record.specs.Reading.{readingOf}
+use Rattle.record.specs.Claims.{Claims, longest, shifted}
+use Rattle.record.proofs.Claims.{claims}
+use Rattle.listing.specs.Line.{lineOf}
+use Rattle.trace.specs.declared.session.Mode.{Mode}
+use Rattle.trace.specs.declared.session.Mode.the-variants as modes
+use Rattle.trace.specs.declared.session.Session.{Session}
+use Rattle.listing.specs.declared.word.Word.the-variants as words
+use Rattle.trace.specs.Effect.{effected, badOf, withSequence}
+use Rattle.trace.specs.Turn.{DataFits, Applied, applied, onMemory, applyOf, Turn, turnAs, recordBy, recordTurnOf, turnBy, turnOf}
+use Rattle.trace.specs.Pass.{readyOf, readyIn, Replay, turnOn, turnsOf, listFrom}
+use Rattle.trace.specs.Whole.{seenIn, Parts, Lists}
+use Rattle.trace.proofs.Records.{data-fits}
+use Rattle.trace.proofs.Lengths.{Kept, turn-kept}
+
+-- the turn, its next place reckoned from d bytes before
+later : ℕ → Turn → Turn
+later d t = record { session = t .session; line = t .line; at = d + t .at; memory = t .memory; windows = t .windows }
+
+twice-shifted : (d e : ℕ) (v : Reading) → shifted (d + e) v ≡ shifted d (shifted e v)
+twice-shifted d e (Found r n) = ap (Found r) (add-assoc d e n)
+twice-shifted d e Refused = refl
+
+module _ (before part after : List ℕ) where
+  drop-whole : (k : ℕ) → k ≤ length part → drop (length before + k) (before ++ (part ++ after)) ≡ drop k part ++ after
+  drop-whole k h = drop-append-add before (part ++ after) k ∙ drop-append-le k part after h
+
+  -- where a whole record is left, or nothing follows the part, reading sees the part alone
+  reading-part : (at : ℕ) (ended first : Bool) → (ended ≡ true → after ≡ []) → at ≤ length part
+      → when ended (ltb 0 (length part - at)) (leb longest (length part - at)) ≡ true
+      → readingOf (before ++ (part ++ after)) (length before + at) first ≡ shifted (length before) (readingOf part at first)
+  reading-part at ended first last h ready =
+      claims .dropped (before ++ (part ++ after)) (length before + at) first
+      (omega (arith, length-append before (part ++ after), length-append part after))
+      ∙ ap (λ (l : List ℕ). shifted (length before + at) (readingOf l 0 first)) (drop-whole at h)
+      ∙ ap (shifted (length before + at)) (go ended refl)
+      ∙ twice-shifted (length before) at (readingOf (drop at part) 0 first)
+      ∙ ap (shifted (length before)) (sym (claims .dropped part at first h))
+    where
+      go : (t : Bool) → ended ≡ t → readingOf (drop at part ++ after) 0 first ≡ readingOf (drop at part) 0 first
+      go true e = ap (λ (l : List ℕ). readingOf (drop at part ++ l) 0 first) (last e) ∙ ap (λ (l : List ℕ). readingOf l 0 first) (append-nil (drop at part))
+      go false e =
+          let room = leb-true longest (length part - at) (subst (λ (t : Bool). when t (ltb 0 (length part - at)) (leb longest (length part - at)) ≡ true) e ready) in
+          claims .settled (drop at part) after 0 first (omega (arith, length-drop at part))
+
+  -- a record's data are the part's
+  data-part : (at count : ℕ) → at + 12 + count ≤ length part
+      → take count (drop (length before + at + 12) (before ++ (part ++ after))) ≡ take count (drop (at + 12) part)
+  data-part at count h =
+      ap (λ (k : ℕ). take count (drop k (before ++ (part ++ after)))) (add-assoc (length before) at 12)
+      ∙ ap (take count) (drop-whole (at + 12) (omega arith))
+      ∙ take-append-le count (drop (at + 12) part) after (omega (arith, length-drop (at + 12) part))
+
+  module _ (s : Session) (position : ℕ) (m w : List ℕ) where
+    -- an MM record, by its data
+    stored : ℕ → ℕ → ℕ → List ℕ → Applied
+    stored n address count bytes =
+        onMemory
+        (when (ltb (length m) (address + count)) (effected (badOf s 12 position) m)
+        (effected (record { session = withSequence s n; line = record { sequence = n; word = words.Memory; first = address; second = count } })
+        (sets m address bytes)))
+        w
+
+    apply-part : (n at : ℕ) (b : Body) → DataFits part at b
+        → applyOf s n position (before ++ (part ++ after)) (length before + at) m w b ≡ applyOf s n position part at m w b
+    unfolding applyOf stored
+    apply-part n at (Settings width beats) h = refl
+    apply-part n at (Memory address count) h = ap (stored n address count) (data-part at count h)
+    apply-part n at (Window start count) h = refl
+    apply-part n at (Write offset value) h = refl
+    apply-part n at (Read offset) h = refl
+    apply-part n at (Steps count) h = refl
+    apply-part n at (Clock bits clock) h = refl
+
+    record-part : (at : ℕ) (v : Reading) → readingOf part at (eqb position 0) ≡ v
+        → recordBy s position (before ++ (part ++ after)) (length before + at) m w (shifted (length before) v)
+        ≡ later (length before) (recordBy s position part at m w v)
+    unfolding later
+    record-part at Refused e = refl
+    record-part at (Found r n) e = go (leb (r .sequence) (s .sequence))
+      where
+        go : (t : Bool)
+            → when t (turnAs (applied (badOf s 11 position) m w) (length before + at))
+            (turnAs (applyOf s (r .sequence) position (before ++ (part ++ after)) (length before + at) m w (r .body)) (length before + n))
+            ≡ later (length before)
+            (when t (turnAs (applied (badOf s 11 position) m w) at) (turnAs (applyOf s (r .sequence) position part at m w (r .body)) n))
+        go true = refl
+        go false = ap (λ (a : Applied). turnAs a (length before + n)) (apply-part (r .sequence) at (r .body) (data-fits part at (eqb position 0) r n e))
+
+    turn-part : (at : ℕ) (ended : Bool) → (ended ≡ true → after ≡ []) → at ≤ length part → readyOf (s .mode) (length part - at) ended ≡ true
+        → turnOf s position (before ++ (part ++ after)) (length before + at) m w ≡ later (length before) (turnOf s position part at m w)
+    unfolding turnOf later
+    turn-part at ended last h ready = go (s .mode) ready
+      where
+        go : (mode : Mode) → readyOf mode (length part - at) ended ≡ true
+            → turnBy s position (before ++ (part ++ after)) (length before + at) m w mode ≡ later (length before) (turnBy s position part at m w mode)
+        go modes.Records e =
+            ap (recordBy s position (before ++ (part ++ after)) (length before + at) m w) (reading-part at ended (eqb position 0) last h e)
+            ∙ record-part at (readingOf part at (eqb position 0)) refl
+        go (modes.Steps left taken) e = refl
+        go modes.Over e = absurd (never e)
+
+  on-part : (text : List ℕ) (ended : Bool) (r : Replay) → (ended ≡ true → after ≡ []) → r .at ≤ length part → readyIn part ended r ≡ true
+      → turnOn 0 (before ++ (part ++ after)) (seenIn (length before) text r) ≡ seenIn (length before) text (turnOn (length before) part r)
+  unfolding turnOn later
+  on-part text ended r last h ready =
+      let place : 0 + (length before + r .at) ≡ length before + r .at = omega arith in
+      ap (shown text r)
+      (ap (λ (k : ℕ). turnOf (r .session) k (before ++ (part ++ after)) (length before + r .at) (r .memory) (r .windows)) place
+      ∙ turn-part (r .session) (length before + r .at) (r .memory) (r .windows) (r .at) ended last h ready)
+      ∙ ap (spoken (later (length before) (turnOf (r .session) (length before + r .at) part (r .at) (r .memory) (r .windows))))
+      (append-assoc text (r .text) (lineOf (turnOf (r .session) (length before + r .at) part (r .at) (r .memory) (r .windows) .line)))
+    where
+      spoken : Turn → List ℕ → Replay
+      spoken t l = record { session = t .session; at = t .at; memory = t .memory; windows = t .windows; text = l }
+
+      shown : List ℕ → Replay → Turn → Replay
+      shown text r t = record { session = t .session; at = t .at; memory = t .memory; windows = t .windows; text = (text ++ r .text) ++ lineOf (t .line) }
+
+turns-within : (base : ℕ) (part : List ℕ) (r : Replay) (n : ℕ) → r .at ≤ length part → turnsOf n base part r .at ≤ length part
+unfolding turnsOf turnOn
+turns-within base part r zero h = h
+turns-within base part r (suc n) h =
+    let q = turnsOf n base part r in
+    turn-kept (q .session) (base + q .at) part (q .at) (q .memory) (q .windows) (turns-within base part r n h) .within
+
+pub parts : Parts
+unfolding turnsOf
+parts before part after text ended r zero last h ready = refl
+parts before part after text ended r (suc n) last h ready =
+    ap (turnOn 0 (before ++ (part ++ after))) (parts before part after text ended r n last h (λ k i. ready k (omega arith)))
+    ∙ on-part before part after text ended (turnsOf n (length before) part r) last (turns-within (length before) part r n h) (ready n (omega arith))
+
+list-step : (k : ℕ) (input : List ℕ) (r : Replay) → readyIn input true r ≡ true → listFrom (suc k) input r ≡ listFrom k input (turnOn 0 input r)
+unfolding listFrom
+list-step k input r e = rw (e, listFrom)
+
+pub lists : Lists
+unfolding turnsOf
+lists input r zero k ready = let same : 0 + k ≡ k = omega arith in ap (λ (j : ℕ). listFrom j input r) same
+lists input r (suc n) k ready =
+    let same : suc n + k ≡ n + suc k = omega arith in
+    ap (λ (j : ℕ). listFrom j input r) same ∙ lists input r n (suc k) (λ j i. ready j (omega arith))
+    ∙ list-step k input (turnsOf n 0 input r) (ready n (omega arith))

@@ -1,14 +1,14 @@
 -- The cut is legal, tiles its bytes, and no legal list that covers them is shorter.
 use mathlib.Core.Path.{_≡_, refl, sym, ap, subst, _∙_}
-use Prim.Native.Nat.{ℕ, zero, suc, _+_, _-_, _≤_, _<_, zero-le, suc-le-suc}
-use mathlib.Core.List.{List, [], _∷_, List·Memᴰ, List·Memᴰ·head, List·Memᴰ·tail, List·Memᴰ·cases-cons, List·Memᴰ·not-nil}
+use Prim.Native.Nat.{ℕ, suc, _+_, _-_, _≤_, _<_, zero-le, suc-le-suc}
+use mathlib.Core.List.{List, _∷_, List·Memᴰ, List·Memᴰ·head, List·Memᴰ·tail, List·Memᴰ·cases-cons, List·Memᴰ·not-nil}
 use mathlib.Core.Logic.{_⊎_, inl, inr}
 use lib.ListN.{length}
 use native.Mathlib.Omega.{arith}
 use Rattle.cut.specs.declared.Burst.{Burst}
 use Rattle.cut.specs.Cut.{burstEnd, burst, cut}
 use Rattle.cut.specs.Legal.{Legal, AllLegal, Tiles, Covers, WellCut, stop}
-use Rattle.cut.proofs.Reach.{Ends, ends, reach-legal, legal-reach, reach-mono}
+use Rattle.cut.proofs.Reach.{ends, reach-legal, legal-reach, reach-mono}
 use Rattle.cut.proofs.Cutting.{cut-ind}
 
 -- the list without the burst at a position

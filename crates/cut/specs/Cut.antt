@@ -1,6 +1,6 @@
 -- Document 01, "Cutting a transfer": each burst reaches as far as is legal or to the end of the transfer.
 use Prim.Native.Nat.{ℕ, zero, suc, _+_, _-_, _*_, _/_, min}
-use mathlib.Core.Bool.{Bool, true, false}
+use mathlib.Core.Bool.{true, false}
 use mathlib.Core.List.{List, [], _∷_}
 use lib.Dec.{ltb}
 use Rattle.cut.specs.declared.Burst.{Burst}

@@ -4,7 +4,6 @@ use Prim.Native.Nat.{ℕ, _%_, _≤_, _<_}
 use mathlib.Core.Bool.{Bool, true}
 use lib.Dec.{eqb, ltb, leb}
 use borrow.Author.Tests.{ltb-true, leb-true, eqb-true}
-use Rattle.kit.specs.Choice.{both}
 use Rattle.kit.specs.Settings.{widths, beatCounts, legalWidth, legalBeats, legalSettings}
 use Rattle.kit.proofs.Choice.{both-left, both-right}
 use Rattle.kit.proofs.Lists.{among-each, each}

@@ -1,6 +1,6 @@
 -- Document 01, answer 1: width 4, 8, 16, 32, 64 or 128 bytes; beats 2, 4, 8, 16, 32, 64, 128 or 256.
 use Prim.Native.Nat.{ℕ}
-use mathlib.Core.Bool.{Bool, true, false}
+use mathlib.Core.Bool.{Bool, false}
 use mathlib.Core.List.{List, [], _∷_}
 use lib.Dec.{eqb}
 use Rattle.kit.specs.Choice.{both, either}

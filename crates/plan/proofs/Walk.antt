@@ -1,6 +1,6 @@
 -- What the loops over a transfer's bursts share: how far they are, and what one turn does.
-use mathlib.Core.Path.{_≡_, refl, sym, ap, subst, _∙_}
-use Prim.Native.Nat.{ℕ, zero, suc, _+_, _-_, _*_, _≤_, _<_, _^_}
+use mathlib.Core.Path.{_≡_, sym, ap, subst, _∙_}
+use Prim.Native.Nat.{ℕ, suc, _+_, _-_, _*_, _≤_, _<_, _^_}
 use mathlib.Core.Bool.{true}
 use mathlib.Core.List.{List, [], _∷_}
 use lib.ListN.{length}
@@ -14,10 +14,9 @@ use mir.Facts.{fits-le, fits-lit}
 use Rattle.kit.specs.Settings.{legalSettings}
 use Rattle.kit.specs.Word.{bytesOf}
 use Rattle.plan.specs.Plan.{littleOf}
-use Rattle.kit.proofs.Legal.{Legal, legal}
-use Rattle.cut.specs.declared.Burst.{Burst}
+use Rattle.kit.proofs.Legal.{legal}
 use Rattle.cut.specs.Cut.{wordStart, endFrom, burstEnd, burst, cut}
-use Rattle.cut.proofs.Reach.{burst-end-from, end-aligned, Ends, ends}
+use Rattle.cut.proofs.Reach.{burst-end-from, end-aligned, ends}
 use Rattle.cut.proofs.Cutting.{cut-step, cut-ind}
 
 -- the walk is at byte `at`, whose word of w bytes starts at `word`, and ends at `end`

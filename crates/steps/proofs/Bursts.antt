@@ -4,13 +4,13 @@ use Prim.Native.Nat.{ℕ, _+_, _-_, _*_, _/_, _≤_, _<_}
 use mathlib.Core.Bool.{true}
 use native.Mathlib.Omega.{arith}
 use Rattle.kit.specs.Settings.{legalSettings}
-use Rattle.kit.proofs.Legal.{Legal, legal}
+use Rattle.kit.proofs.Legal.{legal}
 use Rattle.cut.specs.Cut.{page, reach}
-use Rattle.cut.proofs.Reach.{Ends, ends}
+use Rattle.cut.proofs.Reach.{ends}
 use Rattle.engine.specs.declared.state.Engine.{Engine}
 use Rattle.engine.specs.declared.state.Transfer.{Transfer}
 use Rattle.engine.specs.State.{transferFits}
-use Rattle.engine.proofs.WellFormed.{TransferFits, transfer-fits}
+use Rattle.engine.proofs.WellFormed.{transfer-fits}
 use Rattle.steps.specs.Step.{stopOf, Carriable}
 
 reach-page : (w l a : ℕ) → reach w l a ≤ (a / page + 1) * page

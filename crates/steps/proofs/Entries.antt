@@ -6,11 +6,9 @@ use mathlib.Core.List.{List}
 use mathlib.Core.Logic.{_⊎_, inl, inr}
 use native.Mathlib.Omega.{arith}
 use lib.ListN.{length}
-use lib.Dec.{eqb, ltb}
+use lib.Dec.{ltb}
 use borrow.Author.Tests.{ltb-false, eq-eqb, ne-eqb}
 use Rattle.kit.specs.Choice.{when}
-use Rattle.kit.specs.Answer.{numberOf}
-use Rattle.kit.specs.declared.answer.Answer.{Answer}
 use Rattle.kit.specs.Limits.{mostMemory, mostWindows}
 use Rattle.kit.specs.Settings.{legalSettings}
 use Rattle.kit.proofs.Choice.{yes, no, decide, never}
@@ -21,7 +19,6 @@ use Rattle.engine.specs.declared.state.Engine.{Engine}
 use Rattle.engine.specs.declared.state.Phase.{Phase}
 use Rattle.engine.specs.declared.state.Phase.the-variants.{Idle, Fetch, Move, Update}
 use Rattle.engine.specs.State.{busyOf, wellFormedOf}
-use Rattle.steps.specs.declared.event.Event.the-variants.{None}
 use Rattle.steps.specs.declared.run.Stepped.{Stepped}
 use Rattle.steps.specs.declared.run.Ran.{Ran}
 use Rattle.steps.specs.Step.{Next, advanceBy, advanceOf}

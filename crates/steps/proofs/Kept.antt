@@ -1,7 +1,7 @@
 -- What a step keeps: the settings, the memory's length and bytes, and the state's being well formed.
 use mathlib.Core.Path.{_≡_, refl, sym, ap, subst, _∙_}
-use Prim.Native.Nat.{ℕ, _+_, _-_, _*_, _/_, _%_, _^_, _≤_, _<_}
-use mathlib.Core.Bool.{Bool, true, false}
+use Prim.Native.Nat.{ℕ, _+_, _-_, _/_, _%_, _^_, _≤_, _<_}
+use mathlib.Core.Bool.{Bool, true}
 use mathlib.Core.List.{List}
 use native.Mathlib.Nat.{mul-mod-left}
 use native.Mathlib.Omega.{arith}
@@ -20,7 +20,6 @@ use Rattle.memory.specs.declared.verdict.Verdict.the-variants.{Okay, Slave as S
 use Rattle.memory.specs.Verdict.{groupOf, worse}
 use Rattle.memory.proofs.Groups.{group-okay-fits}
 use Rattle.memory.proofs.Verdicts.{worse-okay}
-use Rattle.engine.specs.declared.state.Settings.{Settings}
 use Rattle.engine.specs.declared.state.Engine.{Engine}
 use Rattle.engine.specs.declared.state.Transfer.{Transfer}
 use Rattle.engine.specs.declared.state.ErrorBit.{ErrorBit}
@@ -29,12 +28,12 @@ use Rattle.engine.specs.declared.state.Outcome.{Outcome}
 use Rattle.engine.specs.declared.state.Outcome.the-variants.{Complete, Internal, Slave, Decode}
 use Rattle.engine.specs.declared.state.Phase.{Phase}
 use Rattle.engine.specs.declared.state.Phase.the-variants.{Idle, Fetch, Move, Update}
-use Rattle.engine.specs.State.{busyOf, errorSetOf, phaseFits, transferFits, wellFormedOf, withChain, withPhase}
-use Rattle.engine.specs.Write.{bit, pointer}
-use Rattle.engine.proofs.WellFormed.{TransferFits, transfer-fits, transfer-fits-test, WellFormed, well-formed, well-formed-test}
+use Rattle.engine.specs.State.{busyOf, errorSetOf, phaseFits, transferFits, wellFormedOf, withPhase}
+use Rattle.engine.specs.Write.{bit}
+use Rattle.engine.proofs.WellFormed.{transfer-fits, transfer-fits-test, WellFormed, well-formed, well-formed-test}
 use Rattle.steps.specs.declared.event.Advanced.{Advanced}
-use Rattle.steps.specs.Step.{Next, haltedOf, describedOf, takeOf, takenOf, fetchBy, fetchOf, endedOf, movedOnOf, stopOf, moveBy, moveOf, completedOf, settledOf, updateBy, updateOf, statusWordOf, advanceBy, advanceOf}
-use Rattle.steps.proofs.Bursts.{Stops, stops}
+use Rattle.steps.specs.Step.{haltedOf, describedOf, takeOf, fetchBy, endedOf, stopOf, moveBy, moveOf, completedOf, settledOf, updateBy, statusWordOf, advanceBy, advanceOf}
+use Rattle.steps.proofs.Bursts.{stops}
 
 -- every element is a byte
 abbrev pub Bytes : List ℕ → Type 0

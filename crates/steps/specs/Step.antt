@@ -1,6 +1,6 @@
 -- Document 01, "Descriptor and steps": one step does one of these: idle, fetch, move, update.
 use Prim.Native.Nat.{ℕ, _+_, _-_, _%_, _^_, _≤_, _<_}
-use mathlib.Core.Bool.{Bool, true, false}
+use mathlib.Core.Bool.{true}
 use mathlib.Core.List.{List}
 use lib.ListN.{length}
 use lib.Seq.{sets}
@@ -8,7 +8,6 @@ use lib.Dec.{eqb}
 use Rattle.kit.specs.Choice.{when}
 use Rattle.kit.specs.Limits.{mostBytes, addressEnd}
 use Rattle.kit.specs.Word.{wordAt, bytesOf}
-use Rattle.cut.specs.declared.Burst.{Burst}
 use Rattle.cut.specs.Cut.{burstEnd, burst}
 use Rattle.memory.specs.declared.window.Window.{Window}
 use Rattle.memory.specs.declared.verdict.Verdict.{Verdict}

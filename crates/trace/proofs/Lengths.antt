@@ -1,30 +1,27 @@
 -- A turn keeps the lengths of memory and windows, and its next place lies in the input.
-use mathlib.Core.Path.{_≡_, refl, ap, subst, _∙_}
+use mathlib.Core.Path.{_≡_, refl, _∙_}
 use Prim.Native.Nat.{ℕ, _+_, _*_, _/_, _≤_}
-use mathlib.Core.Bool.{Bool, true, false}
 use mathlib.Core.List.{List}
 use native.Mathlib.Omega.{arith}
 use lib.ListN.{length, take, drop, set, length-set}
 use lib.Seq.{length-sets}
 use lib.Dec.{eqb, leb, ltb}
-use Rattle.kit.specs.Choice.{when}
 use Rattle.kit.specs.Limits.{mostWindows}
 use Rattle.kit.proofs.Choice.{cases}
 use Rattle.memory.specs.Windows.{windowsOf}
 use Rattle.engine.specs.declared.state.Engine.{Engine}
-use Rattle.steps.specs.Step.{Next, advanceOf}
-use Rattle.steps.specs.Run.{refusalOf, begun, stepOf}
+use Rattle.steps.specs.Step.{Next}
+use Rattle.steps.specs.Run.{refusalOf, stepOf}
 use Rattle.steps.proofs.Kept.{advance-length}
 use Rattle.record.specs.declared.reading.Body.{Body}
 use Rattle.record.specs.declared.reading.Body.the-variants.{Settings, Memory, Window, Write, Read, Steps, Clock}
-use Rattle.record.specs.declared.reading.Record.{Record}
 use Rattle.record.specs.declared.reading.Reading.{Reading}
 use Rattle.record.specs.declared.reading.Reading.the-variants.{Found, Refused}
 use Rattle.record.specs.Reading.{readingOf}
 use Rattle.trace.specs.declared.session.Mode.{Mode}
 use Rattle.trace.specs.declared.session.Mode.the-variants as modes
 use Rattle.trace.specs.declared.session.Session.{Session}
-use Rattle.trace.specs.Effect.{Effected, memoryOf, windowOf, withSequence}
+use Rattle.trace.specs.Effect.{Effected, withSequence}
 use Rattle.trace.specs.Stepping.{usedOf, mostSteps, steppingOf}
 use Rattle.trace.specs.Turn.{Applied, applyOf, Turn, recordBy, turnBy, turnOf}
 use Rattle.trace.proofs.Records.{inside}

@@ -1,6 +1,6 @@
 -- A record that was found has its data in the input.
-use mathlib.Core.Path.{_≡_, refl, ap, subst}
-use Prim.Native.Nat.{ℕ, _+_, _≤_, _<_}
+use mathlib.Core.Path.{_≡_, refl}
+use Prim.Native.Nat.{ℕ, _≤_, _<_}
 use mathlib.Core.Bool.{Bool}
 use mathlib.Core.List.{List}
 use native.Mathlib.Omega.{arith}
@@ -10,7 +10,6 @@ use Rattle.record.specs.declared.reading.Body.the-variants.{Settings, Memory, W
 use Rattle.record.specs.declared.reading.Record.{Record}
 use Rattle.record.specs.declared.reading.Reading.the-variants.{Found}
 use Rattle.record.specs.Reading.{readingOf}
-use Rattle.record.specs.Claims.{Claims}
 use Rattle.record.proofs.Claims.{claims}
 use Rattle.trace.specs.Turn.{DataFits}
 

@@ -1,24 +1,22 @@
 -- A turn on a part of a trace is a turn on the whole.
 use mathlib.Core.Path.{_≡_, refl, sym, ap, subst, _∙_}
-use Prim.Native.Nat.{ℕ, zero, suc, _+_, _-_, _<_, _≤_}
+use Prim.Native.Nat.{ℕ, zero, suc, _+_, _-_, _≤_}
 use mathlib.Core.Bool.{Bool, true, false}
 use mathlib.Core.List.{List, [], _++_, append-assoc, append-nil}
-use mathlib.Core.Logic.{_⊎_, inl, inr}
 use native.Mathlib.Nat.{add-assoc}
 use native.Mathlib.Omega.{arith}
 use lib.ListN.{length, take, drop, length-append, length-drop}
 use lib.Seq.{sets, drop-append-add, drop-append-le, take-append-le}
 use lib.Dec.{eqb, leb, ltb}
-use borrow.Author.Tests.{leb-true, ltb-true, lt-ltb}
+use borrow.Author.Tests.{leb-true}
 use Rattle.kit.specs.Choice.{when}
-use Rattle.kit.proofs.Choice.{cases, decide, never}
+use Rattle.kit.proofs.Choice.{never}
 use Rattle.record.specs.declared.reading.Body.{Body}
 use Rattle.record.specs.declared.reading.Body.the-variants.{Settings, Memory, Window, Write, Read, Steps, Clock}
-use Rattle.record.specs.declared.reading.Record.{Record}
 use Rattle.record.specs.declared.reading.Reading.{Reading}
 use Rattle.record.specs.declared.reading.Reading.the-variants.{Found, Refused}
 use Rattle.record.specs.Reading.{readingOf}
-use Rattle.record.specs.Claims.{Claims, longest, shifted}
+use Rattle.record.specs.Claims.{longest, shifted}
 use Rattle.record.proofs.Claims.{claims}
 use Rattle.listing.specs.Line.{lineOf}
 use Rattle.trace.specs.declared.session.Mode.{Mode}
@@ -26,11 +24,11 @@ use Rattle.trace.specs.declared.session.Mode.the-variants as modes
 use Rattle.trace.specs.declared.session.Session.{Session}
 use Rattle.listing.specs.declared.word.Word.the-variants as words
 use Rattle.trace.specs.Effect.{effected, badOf, withSequence}
-use Rattle.trace.specs.Turn.{DataFits, Applied, applied, onMemory, applyOf, Turn, turnAs, recordBy, recordTurnOf, turnBy, turnOf}
+use Rattle.trace.specs.Turn.{DataFits, Applied, applied, onMemory, applyOf, Turn, turnAs, recordBy, turnBy, turnOf}
 use Rattle.trace.specs.Pass.{readyOf, readyIn, Replay, turnOn, turnsOf, listFrom}
 use Rattle.trace.specs.Whole.{seenIn, Parts, Lists}
 use Rattle.trace.proofs.Records.{data-fits}
-use Rattle.trace.proofs.Lengths.{Kept, turn-kept}
+use Rattle.trace.proofs.Lengths.{turn-kept}
 
 -- the turn, its next place reckoned from d bytes before
 later : ℕ → Turn → Turn

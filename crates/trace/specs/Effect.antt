@@ -12,9 +12,7 @@ use Rattle.engine.specs.State.{freshOf}
 use Rattle.engine.specs.Write as registers-written
 use Rattle.engine.specs.Read as registers-read
 use Rattle.monitor.specs.declared.clock.Clock.{Clock}
-use Rattle.monitor.specs.declared.monitor.Monitor.{Monitor}
 use Rattle.monitor.specs.Monitor as bus
-use Rattle.listing.specs.declared.line.Line.{Line}
 use Rattle.listing.specs.declared.word.Word.the-variants.{Set, Memory, Window, Write, Read, NoRead, Bus, Bad}
 use Rattle.trace.specs.declared.session.Mode.{Mode}
 use Rattle.trace.specs.declared.session.Mode.the-variants.{Records, Over}

@@ -6,7 +6,6 @@ use lib.Dec.{eqb, leb}
 use Rattle.kit.specs.Choice.{when}
 use Rattle.record.specs.declared.reading.Body.{Body}
 use Rattle.record.specs.declared.reading.Body.the-variants.{Settings, Memory, Window, Write, Read, Steps, Clock}
-use Rattle.record.specs.declared.reading.Record.{Record}
 use Rattle.record.specs.declared.reading.Reading.{Reading}
 use Rattle.record.specs.declared.reading.Reading.the-variants.{Found, Refused}
 use Rattle.record.specs.Reading.{readingOf}

@@ -8,10 +8,6 @@ use Rattle.cut.proofs.Reach.{burst-end-from}
 use borrow.Author.Needs.{needs}
 use Rattle.cut.proofs.burst_end.Statement.{statement}
 use Rattle.cut.proofs.burst_end.Tie as tie
-use Rattle.cut.proofs.burst_end.Reads as reads
-use Rattle.cut.proofs.burst_end.Lts as lts
-use Rattle.cut.proofs.end_from.Reads as end-from-reads
-use Rattle.cut.proofs.word_start.Reads as word-start-reads
 
 word-start-requires : tie.Need-word-start-requires
 word-start-requires c κs = search needs

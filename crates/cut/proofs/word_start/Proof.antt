@@ -5,8 +5,6 @@ use mir.Facts.{fits-le}
 use borrow.Author.Needs.{needs}
 use Rattle.cut.proofs.word_start.Statement.{statement}
 use Rattle.cut.proofs.word_start.Tie as tie
-use Rattle.cut.proofs.word_start.Reads as reads
-use Rattle.cut.proofs.word_start.Lts as lts
 
 at-width : (a : ℕ) {w k : ℕ} → w ≡ k → a / k * k ≡ a / w * w
 at-width a e = ap (λ (n : ℕ). a / n * n) (sym e)

@@ -1,4 +1,3 @@
-use mathlib.Core.Path.{sym, ap, _∙_}
 use Prim.Native.Nat.{_+_, _/_}
 use native.Mathlib.Omega.{arith}
 use borrow.Author.Needs.{needs}
@@ -7,14 +6,9 @@ use mathlib.Core.List.{[]}
 use lib.ListN.{length}
 use Rattle.cut.specs.Cut.{cut}
 use Rattle.plan.specs.Plan.{placesOf, littleOf}
-use Rattle.plan.proofs.Planning.{Planable, planable, zero-answer, writes, keeps}
+use Rattle.plan.proofs.Planning.{planable, zero-answer, writes, keeps}
 use Rattle.plan.proofs.belikumba_plan.Statement.{statement}
 use Rattle.plan.proofs.belikumba_plan.Tie as tie
-use Rattle.plan.proofs.belikumba_plan.Reads as reads
-use Rattle.plan.proofs.belikumba_plan.Lts as lts
-use Rattle.kit.proofs.answer.number.Reads as number-reads
-use Rattle.plan.proofs.fill.bytes.Reads as bytes-reads
-use Rattle.plan.proofs.measure.measure.Reads as measure-reads
 
 measure-requires : tie.Need-measure-requires
 measure-requires c κs = search needs

@@ -7,14 +7,9 @@ use mathlib.Core.List.{[]}
 use lib.ListN.{length}
 use Rattle.cut.specs.Cut.{cut}
 use Rattle.plan.specs.Plan.{placesOf}
-use Rattle.plan.proofs.Planning.{Planable, planable, zero-answer, given, writes, keeps}
+use Rattle.plan.proofs.Planning.{planable, zero-answer, given, writes, keeps}
 use Rattle.plan.proofs.plan.Statement.{statement}
 use Rattle.plan.proofs.plan.Tie as tie
-use Rattle.plan.proofs.plan.Reads as reads
-use Rattle.plan.proofs.plan.Lts as lts
-use Rattle.kit.proofs.answer.number.Reads as number-reads
-use Rattle.plan.proofs.fill.places.Reads as places-reads
-use Rattle.plan.proofs.measure.measure.Reads as measure-reads
 
 measure-requires : tie.Need-measure-requires
 measure-requires c κs = search needs

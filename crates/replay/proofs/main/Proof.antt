@@ -1,11 +1,6 @@
 use borrow.Author.Needs.{needs}
 use Rattle.replay.proofs.main.Statement.{statement}
 use Rattle.replay.proofs.main.Tie as tie
-use Rattle.replay.proofs.main.Reads as reads
-use Rattle.replay.proofs.main.Lts as lts
-use Rattle.io.proofs.large_buffer.Reads as large-buffer-reads
-use Rattle.replay.proofs.begin.Reads as begin-reads
-use Rattle.replay.proofs.flow_on.Reads as flow-on-reads
 
 abbrev Inv-loop : tie.InvT-loop
 Inv-loop memory₀ windows₀ buffer₀ out₀ flow₀ turns₀ memory windows buffer out flow turns = Unit {0}

@@ -3,9 +3,6 @@ use lib.Seq.{length-take-le}
 use borrow.Author.Needs.{needs}
 use Rattle.replay.proofs.send.Statement.{statement}
 use Rattle.replay.proofs.send.Tie as tie
-use Rattle.replay.proofs.send.Reads as reads
-use Rattle.replay.proofs.send.Lts as lts
-use Rattle.io.proofs.write_all.Reads as write-all-reads
 
 returns : tie.Need-returns
 returns c = search needs

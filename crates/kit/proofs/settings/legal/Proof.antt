@@ -3,24 +3,16 @@ use Rattle.kit.proofs.Choice.{yes, no}
 use borrow.Author.Needs.{needs}
 use Rattle.kit.proofs.settings.legal.Statement.{statement}
 use Rattle.kit.proofs.settings.legal.Tie as tie
-use Rattle.kit.proofs.settings.legal.Reads as reads
-use Rattle.kit.proofs.settings.legal.Lts as lts
-use Rattle.kit.proofs.settings.legal_beats.Reads as legal-beats-reads
-use Rattle.kit.proofs.settings.legal_width.Reads as legal-width-reads
 
--- src/settings.rt:27:8
 legal-width-requires : tie.Need-legal-width-requires
 legal-width-requires c κs = search needs
 
--- src/settings.rt:28:9
 legal-beats-requires : tie.Need-legal-beats-requires
 legal-beats-requires c κs = search needs
 
--- src/settings.rt:24:1
 returns : tie.Need-returns
 returns c = yes _ (sym (c .before .before .legal-width .ensures) ∙ c .before .if1 .taken) (c .legal-beats .ensures)
 
--- src/settings.rt:24:1
 returns-2 : tie.Need-returns-2
 returns-2 c = no _ (sym (c .before .legal-width .ensures) ∙ c .if1 .left) refl
 

@@ -4,19 +4,14 @@ use native.Mathlib.Omega.{arith}
 use mathlib.Core.List.{List, [], _∷_}
 use lib.ListN.{length}
 use lib.Seq.{sets, length-sets}
-use borrow.Author.Needs.{needs, scaled-fits}
+use borrow.Author.Needs.{needs}
 use Rattle.cut.specs.declared.Burst.{Burst}
 use Rattle.cut.specs.Cut.{cut}
 use Rattle.cut.proofs.Cutting.{cut-stop}
 use Rattle.plan.specs.Plan.{placesOf, littleOf}
-use Rattle.plan.proofs.Walk.{width-positive, span-fits, Walk, asked, Turn, turn, little-step}
+use Rattle.plan.proofs.Walk.{width-positive, span-fits, Walk, asked, turn, little-step}
 use Rattle.plan.proofs.fill.bytes.Statement.{statement}
 use Rattle.plan.proofs.fill.bytes.Tie as tie
-use Rattle.plan.proofs.fill.bytes.Reads as reads
-use Rattle.plan.proofs.fill.bytes.Lts as lts
-use Rattle.cut.proofs.end_from.Reads as end-from-reads
-use Rattle.cut.proofs.word_start.Reads as word-start-reads
-use Rattle.plan.proofs.fill.store_burst.Reads as store-burst-reads
 
 abbrev Inv-loop : tie.InvT-loop
 Inv-loop width beats start end places₀ span at₀ word₀ place₀ places at word place =

@@ -1,22 +1,18 @@
 use mathlib.Core.Path.{_≡_, refl, sym, ap, _∙_}
-use Prim.Native.Nat.{ℕ, _+_, _-_, _*_, _≤_}
+use Prim.Native.Nat.{_+_, _-_, _*_, _≤_}
 use native.Mathlib.Numerals.{add-one, add-two}
 use native.Mathlib.Omega.{arith}
 use mathlib.Core.List.{List}
 use lib.ListN.{length, length-set}
 use lib.Seq.{sets}
-use borrow.Author.Needs.{needs, scaled-fits}
+use borrow.Author.Needs.{needs}
 use Rattle.cut.specs.declared.Burst.{Burst}
 use Rattle.cut.specs.Cut.{cut}
 use Rattle.cut.proofs.Cutting.{cut-stop}
 use Rattle.plan.specs.Plan.{placesOf}
-use Rattle.plan.proofs.Walk.{width-positive, span-fits, Walk, asked, Turn, turn}
+use Rattle.plan.proofs.Walk.{width-positive, span-fits, Walk, asked, turn}
 use Rattle.plan.proofs.fill.places.Statement.{statement}
 use Rattle.plan.proofs.fill.places.Tie as tie
-use Rattle.plan.proofs.fill.places.Reads as reads
-use Rattle.plan.proofs.fill.places.Lts as lts
-use Rattle.cut.proofs.end_from.Reads as end-from-reads
-use Rattle.cut.proofs.word_start.Reads as word-start-reads
 
 abbrev Inv-loop : tie.InvT-loop
 Inv-loop width beats start end places₀ span at₀ word₀ place₀ places at word place =

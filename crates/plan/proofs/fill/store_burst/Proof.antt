@@ -8,9 +8,6 @@ use Rattle.kit.specs.Word.{bytesOf}
 use Rattle.plan.proofs.Walk.{little-pair}
 use Rattle.plan.proofs.fill.store_burst.Statement.{statement}
 use Rattle.plan.proofs.fill.store_burst.Tie as tie
-use Rattle.plan.proofs.fill.store_burst.Reads as reads
-use Rattle.plan.proofs.fill.store_burst.Lts as lts
-use Rattle.kit.proofs.word.store.Reads as store-reads
 
 store-requires : tie.Need-store-requires
 store-requires c κs = search needs

@@ -5,13 +5,9 @@ use native.Mathlib.Omega.{arith}
 use borrow.Author.Needs.{needs}
 use Rattle.cut.specs.Cut.{cut}
 use Rattle.cut.proofs.Cutting.{cut-stop}
-use Rattle.plan.proofs.Walk.{width-positive, span-fits, cut-count, Walk, asked, Turn, turn}
+use Rattle.plan.proofs.Walk.{width-positive, span-fits, cut-count, Walk, asked, turn}
 use Rattle.plan.proofs.measure.count_bursts.Statement.{statement}
 use Rattle.plan.proofs.measure.count_bursts.Tie as tie
-use Rattle.plan.proofs.measure.count_bursts.Reads as reads
-use Rattle.plan.proofs.measure.count_bursts.Lts as lts
-use Rattle.cut.proofs.end_from.Reads as end-from-reads
-use Rattle.cut.proofs.word_start.Reads as word-start-reads
 
 abbrev Inv-loop : tie.InvT-loop
 Inv-loop width beats start end span at₀ word₀ bursts₀ at word bursts = Walk width end at word × (bursts + length (cut width beats at end) ≡ length (cut width beats start end))

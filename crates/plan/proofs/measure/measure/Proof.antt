@@ -1,18 +1,13 @@
-use mathlib.Core.Path.{_≡_, refl, sym, ap, subst, _∙_}
+use mathlib.Core.Path.{refl, sym, ap, subst, _∙_}
 use Prim.Native.Nat.{ℕ, _*_, _<_, _≤_}
 use native.Mathlib.Omega.{arith}
 use borrow.Author.Needs.{needs}
 use borrow.Author.Tests.{lt-ltb, le-ltb, not-true, not-false}
 use Rattle.kit.proofs.Choice.{yes, no}
 use Rattle.plan.specs.Plan.{Measured, measureOf}
-use Rattle.plan.proofs.Planning.{InRange, in-range}
+use Rattle.plan.proofs.Planning.{in-range}
 use Rattle.plan.proofs.measure.measure.Statement.{statement}
 use Rattle.plan.proofs.measure.measure.Tie as tie
-use Rattle.plan.proofs.measure.measure.Reads as reads
-use Rattle.plan.proofs.measure.measure.Lts as lts
-use Rattle.kit.proofs.settings.legal.Reads as legal-reads
-use Rattle.plan.proofs.measure.count_bursts.Reads as count-bursts-reads
-use Rattle.plan.proofs.measure.out_of_range.Reads as out-of-range-reads
 
 counted : ℕ → Measured
 counted n = record { answer = 0; bursts = n }

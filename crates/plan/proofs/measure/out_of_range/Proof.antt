@@ -4,8 +4,6 @@ use borrow.Author.Tests.{eq-eqb, ne-eqb, lt-ltb, le-ltb}
 use Rattle.kit.proofs.Choice.{yes, no}
 use Rattle.plan.proofs.measure.out_of_range.Statement.{statement}
 use Rattle.plan.proofs.measure.out_of_range.Tie as tie
-use Rattle.plan.proofs.measure.out_of_range.Reads as reads
-use Rattle.plan.proofs.measure.out_of_range.Lts as lts
 
 returns : tie.Need-returns
 returns c = yes _ (eq-eqb _ 0 (c .if1 .taken)) refl

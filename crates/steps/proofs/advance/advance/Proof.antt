@@ -5,15 +5,10 @@ use denote.Ref.{now}
 use Rattle.memory.specs.Windows.{windowsOf}
 use Rattle.engine.specs.declared.state.Phase.{Phase}
 use Rattle.engine.specs.State.{phaseFits}
-use Rattle.engine.proofs.WellFormed.{Parts, parts}
+use Rattle.engine.proofs.WellFormed.{parts}
 use Rattle.steps.specs.Step.{next, advanceBy, advanceOf}
 use Rattle.steps.proofs.advance.advance.Statement.{statement}
 use Rattle.steps.proofs.advance.advance.Tie as tie
-use Rattle.steps.proofs.advance.advance.Reads as reads
-use Rattle.steps.proofs.advance.advance.Lts as lts
-use Rattle.steps.proofs.fetch.fetch.Reads as fetch-reads
-use Rattle.steps.proofs.shift.shift.Reads as shift-reads
-use Rattle.steps.proofs.update.update.Reads as update-reads
 
 enum-told : tie.Need-enum-told
 enum-told c = search needs

@@ -3,8 +3,6 @@ use borrow.Author.Tests.{eq-eqb, ne-eqb}
 use Rattle.kit.proofs.Choice.{yes, no}
 use Rattle.steps.proofs.fetch.described.Statement.{statement}
 use Rattle.steps.proofs.fetch.described.Tie as tie
-use Rattle.steps.proofs.fetch.described.Reads as reads
-use Rattle.steps.proofs.fetch.described.Lts as lts
 
 returns : tie.Need-returns
 returns c = yes _ (eq-eqb _ 0 (c .if1 .taken)) refl

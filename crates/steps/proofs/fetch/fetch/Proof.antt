@@ -1,4 +1,4 @@
-use mathlib.Core.Path.{refl, sym, ap, _∙_}
+use mathlib.Core.Path.{sym, ap, _∙_}
 use native.Mathlib.Omega.{arith}
 use borrow.Author.Needs.{needs}
 use denote.Ref.{now}
@@ -8,11 +8,6 @@ use Rattle.memory.proofs.Groups.{group-okay-fits}
 use Rattle.steps.specs.Step.{fetchBy}
 use Rattle.steps.proofs.fetch.fetch.Statement.{statement}
 use Rattle.steps.proofs.fetch.fetch.Tie as tie
-use Rattle.steps.proofs.fetch.fetch.Reads as reads
-use Rattle.steps.proofs.fetch.fetch.Lts as lts
-use Rattle.memory.proofs.verdict.judge.Reads as judge-reads
-use Rattle.steps.proofs.fetch.taken.Reads as taken-reads
-use Rattle.steps.proofs.halt.halt.Reads as halt-reads
 
 cast-judge : tie.Need-cast-judge
 cast-judge c = search needs

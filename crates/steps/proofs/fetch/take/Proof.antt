@@ -10,10 +10,6 @@ use Rattle.engine.specs.Write.{pointer}
 use Rattle.steps.specs.Step.{takeOf}
 use Rattle.steps.proofs.fetch.take.Statement.{statement}
 use Rattle.steps.proofs.fetch.take.Tie as tie
-use Rattle.steps.proofs.fetch.take.Reads as reads
-use Rattle.steps.proofs.fetch.take.Lts as lts
-use Rattle.steps.proofs.fetch.described.Reads as described-reads
-use Rattle.steps.proofs.halt.halt.Reads as halt-reads
 
 halt-requires : tie.Need-halt-requires
 halt-requires c κs = search needs

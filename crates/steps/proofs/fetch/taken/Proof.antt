@@ -1,10 +1,6 @@
 use borrow.Author.Needs.{needs}
 use Rattle.steps.proofs.fetch.taken.Statement.{statement}
 use Rattle.steps.proofs.fetch.taken.Tie as tie
-use Rattle.steps.proofs.fetch.taken.Reads as reads
-use Rattle.steps.proofs.fetch.taken.Lts as lts
-use Rattle.kit.proofs.word.load.Reads as load-reads
-use Rattle.steps.proofs.fetch.take.Reads as take-reads
 
 load-requires : tie.Need-load-requires
 load-requires c κs = search needs

@@ -6,10 +6,6 @@ use Rattle.steps.specs.declared.event.Event.the-variants.{Halt}
 use Rattle.steps.specs.declared.event.Advanced.{Advanced}
 use Rattle.steps.proofs.halt.halt.Statement.{statement}
 use Rattle.steps.proofs.halt.halt.Tie as tie
-use Rattle.steps.proofs.halt.halt.Reads as reads
-use Rattle.steps.proofs.halt.halt.Lts as lts
-use Rattle.steps.proofs.halt.bit_number.Reads as bit-number-reads
-use Rattle.steps.proofs.halt.halted.Reads as halted-reads
 
 bit-number-requires : tie.Need-bit-number-requires
 bit-number-requires c κs = search needs

@@ -5,10 +5,6 @@ use Rattle.kit.proofs.Choice.{yes, no}
 use Rattle.steps.specs.Run.{refusalOf}
 use Rattle.steps.proofs.run.refusal.Statement.{statement}
 use Rattle.steps.proofs.run.refusal.Tie as tie
-use Rattle.steps.proofs.run.refusal.Reads as reads
-use Rattle.steps.proofs.run.refusal.Lts as lts
-use Rattle.engine.proofs.state.well_formed.Reads as well-formed-reads
-use Rattle.kit.proofs.settings.legal.Reads as legal-reads
 
 legal-requires : tie.Need-legal-requires
 legal-requires c κs = search needs

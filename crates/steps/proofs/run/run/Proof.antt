@@ -3,14 +3,9 @@ use Prim.Native.Nat.{_/_}
 use borrow.Author.Needs.{needs}
 use denote.Ref.{now}
 use lib.ListN.{length}
-use Rattle.steps.proofs.Entries.{Passes, passes, run-refused, run-taken}
+use Rattle.steps.proofs.Entries.{passes, run-refused, run-taken}
 use Rattle.steps.proofs.run.run.Statement.{statement}
 use Rattle.steps.proofs.run.run.Tie as tie
-use Rattle.steps.proofs.run.run.Reads as reads
-use Rattle.steps.proofs.run.run.Lts as lts
-use Rattle.kit.proofs.answer.number.Reads as number-reads
-use Rattle.steps.proofs.run.refusal.Reads as refusal-reads
-use Rattle.steps.proofs.run.walk.Reads as walk-reads
 
 refusal-requires : tie.Need-refusal-requires
 refusal-requires c κs = search needs

@@ -3,14 +3,9 @@ use Prim.Native.Nat.{_/_}
 use borrow.Author.Needs.{needs}
 use denote.Ref.{now}
 use lib.ListN.{length}
-use Rattle.steps.proofs.Entries.{Passes, passes, step-refused, step-taken}
+use Rattle.steps.proofs.Entries.{passes, step-refused, step-taken}
 use Rattle.steps.proofs.run.step.Statement.{statement}
 use Rattle.steps.proofs.run.step.Tie as tie
-use Rattle.steps.proofs.run.step.Reads as reads
-use Rattle.steps.proofs.run.step.Lts as lts
-use Rattle.kit.proofs.answer.number.Reads as number-reads
-use Rattle.steps.proofs.run.refusal.Reads as refusal-reads
-use Rattle.steps.proofs.run.walk.Reads as walk-reads
 
 refusal-requires : tie.Need-refusal-requires
 refusal-requires c κs = search needs

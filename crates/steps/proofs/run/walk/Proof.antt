@@ -13,10 +13,6 @@ use Rattle.steps.proofs.Kept.{advance-length}
 use Rattle.steps.proofs.Walks.{Walking, walking-begin, walking-step, walking-done, walking-idle}
 use Rattle.steps.proofs.run.walk.Statement.{statement}
 use Rattle.steps.proofs.run.walk.Tie as tie
-use Rattle.steps.proofs.run.walk.Reads as reads
-use Rattle.steps.proofs.run.walk.Lts as lts
-use Rattle.engine.proofs.state.busy.Reads as busy-reads
-use Rattle.steps.proofs.advance.advance.Reads as advance-reads
 
 abbrev Inv-loop : tie.InvT-loop
 Inv-loop memory₀ windows most last₀ steps₀ memory last steps =

@@ -1,6 +1,4 @@
 use mathlib.Core.Path.{sym, ap, ap₂, _∙_}
-use Prim.Native.Nat.{ℕ}
-use mathlib.Core.List.{List}
 use lib.ListN.{length}
 use borrow.Author.Needs.{needs}
 use denote.Ref.{now}
@@ -11,12 +9,6 @@ use Rattle.memory.proofs.Verdicts.{worse-okay}
 use Rattle.steps.specs.Step.{next, moveBy}
 use Rattle.steps.proofs.shift.carry.Statement.{statement}
 use Rattle.steps.proofs.shift.carry.Tie as tie
-use Rattle.steps.proofs.shift.carry.Reads as reads
-use Rattle.steps.proofs.shift.carry.Lts as lts
-use Rattle.memory.proofs.burst.copy.Reads as copy-reads
-use Rattle.memory.proofs.verdict.judge_pair.Reads as judge-pair-reads
-use Rattle.steps.proofs.shift.faulted.Reads as faulted-reads
-use Rattle.steps.proofs.shift.moved.Reads as moved-reads
 
 judge-pair-requires : tie.Need-judge-pair-requires
 judge-pair-requires c κs = search needs

@@ -2,8 +2,6 @@ use mathlib.Core.Path.{refl}
 use Rattle.kit.proofs.Choice.{yes, no}
 use Rattle.steps.proofs.shift.ended.Statement.{statement}
 use Rattle.steps.proofs.shift.ended.Tie as tie
-use Rattle.steps.proofs.shift.ended.Reads as reads
-use Rattle.steps.proofs.shift.ended.Lts as lts
 
 returns : tie.Need-returns
 returns c = yes _ (c .before .before .before .before .before .if1 .taken) refl

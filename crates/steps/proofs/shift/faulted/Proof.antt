@@ -1,4 +1,4 @@
-use mathlib.Core.Path.{refl, ap₂, _∙_}
+use mathlib.Core.Path.{refl, ap₂}
 use Prim.Native.Nat.{ℕ}
 use borrow.Author.Needs.{needs}
 use Rattle.kit.proofs.Choice.{yes, no}
@@ -7,10 +7,6 @@ use Rattle.steps.specs.declared.event.Event.the-variants.{Fault}
 use Rattle.steps.specs.declared.event.Advanced.{Advanced}
 use Rattle.steps.proofs.shift.faulted.Statement.{statement}
 use Rattle.steps.proofs.shift.faulted.Tie as tie
-use Rattle.steps.proofs.shift.faulted.Reads as reads
-use Rattle.steps.proofs.shift.faulted.Lts as lts
-use Rattle.steps.proofs.halt.bit_number.Reads as bit-number-reads
-use Rattle.steps.proofs.halt.halted.Reads as halted-reads
 
 bit-number-requires : tie.Need-bit-number-requires
 bit-number-requires c κs = search needs

@@ -5,9 +5,6 @@ use Rattle.steps.specs.declared.event.Event.the-variants.{Move}
 use Rattle.steps.specs.declared.event.Advanced.{Advanced}
 use Rattle.steps.proofs.shift.moved.Statement.{statement}
 use Rattle.steps.proofs.shift.moved.Tie as tie
-use Rattle.steps.proofs.shift.moved.Reads as reads
-use Rattle.steps.proofs.shift.moved.Lts as lts
-use Rattle.steps.proofs.shift.moved_on.Reads as moved-on-reads
 
 add-moved-on : tie.Need-add-moved-on
 add-moved-on c = search needs

@@ -4,9 +4,6 @@ use borrow.Author.Tests.{eq-eqb, ne-eqb}
 use Rattle.kit.proofs.Choice.{yes, no}
 use Rattle.steps.proofs.shift.moved_on.Statement.{statement}
 use Rattle.steps.proofs.shift.moved_on.Tie as tie
-use Rattle.steps.proofs.shift.moved_on.Reads as reads
-use Rattle.steps.proofs.shift.moved_on.Lts as lts
-use Rattle.steps.proofs.shift.ended.Reads as ended-reads
 
 ended-requires : tie.Need-ended-requires
 ended-requires c κs = search needs

@@ -1,19 +1,15 @@
-use mathlib.Core.Path.{_≡_, sym, ap, subst, _∙_}
+use mathlib.Core.Path.{sym, ap, subst, _∙_}
 use Prim.Native.Nat.{ℕ, _+_, _-_}
 use native.Mathlib.Omega.{arith}
 use borrow.Author.Needs.{needs}
 use denote.Ref.{now}
-use Rattle.kit.proofs.Legal.{Legal, legal}
+use Rattle.kit.proofs.Legal.{legal}
 use Rattle.memory.specs.Windows.{windowsOf}
-use Rattle.engine.proofs.WellFormed.{TransferFits, transfer-fits}
+use Rattle.engine.proofs.WellFormed.{transfer-fits}
 use Rattle.steps.specs.Step.{Carriable, carryOf}
-use Rattle.steps.proofs.Bursts.{Stops, stops, carriable}
+use Rattle.steps.proofs.Bursts.{stops, carriable}
 use Rattle.steps.proofs.shift.shift.Statement.{statement}
 use Rattle.steps.proofs.shift.shift.Tie as tie
-use Rattle.steps.proofs.shift.shift.Reads as reads
-use Rattle.steps.proofs.shift.shift.Lts as lts
-use Rattle.cut.proofs.burst_end.Reads as burst-end-reads
-use Rattle.steps.proofs.shift.carry.Reads as carry-reads
 
 cast-from : tie.Need-cast-from
 cast-from c = search needs

@@ -3,8 +3,6 @@ use borrow.Author.Tests.{eq-eqb, ne-eqb}
 use Rattle.kit.proofs.Choice.{yes, no}
 use Rattle.steps.proofs.update.completed.Statement.{statement}
 use Rattle.steps.proofs.update.completed.Tie as tie
-use Rattle.steps.proofs.update.completed.Reads as reads
-use Rattle.steps.proofs.update.completed.Lts as lts
 
 returns : tie.Need-returns
 returns c = yes _ (eq-eqb _ _ (c .before .before .before .if1 .taken)) refl

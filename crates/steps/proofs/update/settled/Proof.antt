@@ -3,10 +3,6 @@ use borrow.Author.Needs.{needs}
 use Rattle.steps.specs.Step.{settledOf}
 use Rattle.steps.proofs.update.settled.Statement.{statement}
 use Rattle.steps.proofs.update.settled.Tie as tie
-use Rattle.steps.proofs.update.settled.Reads as reads
-use Rattle.steps.proofs.update.settled.Lts as lts
-use Rattle.steps.proofs.halt.halted.Reads as halted-reads
-use Rattle.steps.proofs.update.completed.Reads as completed-reads
 
 enum-told : tie.Need-enum-told
 enum-told c = search needs

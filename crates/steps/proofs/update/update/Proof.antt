@@ -11,13 +11,6 @@ use Rattle.memory.proofs.Groups.{group-okay-fits}
 use Rattle.steps.specs.Step.{next, updatedOf, updateBy}
 use Rattle.steps.proofs.update.update.Statement.{statement}
 use Rattle.steps.proofs.update.update.Tie as tie
-use Rattle.steps.proofs.update.update.Reads as reads
-use Rattle.steps.proofs.update.update.Lts as lts
-use Rattle.kit.proofs.word.store.Reads as store-reads
-use Rattle.memory.proofs.verdict.judge.Reads as judge-reads
-use Rattle.steps.proofs.halt.halt.Reads as halt-reads
-use Rattle.steps.proofs.update.status_word.Reads as status-word-reads
-use Rattle.steps.proofs.update.updated.Reads as updated-reads
 
 cast-at : tie.Need-cast-at
 cast-at c = search needs

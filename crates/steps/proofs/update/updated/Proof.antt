@@ -5,9 +5,6 @@ use Rattle.steps.specs.declared.event.Event.the-variants.{Update}
 use Rattle.steps.specs.declared.event.Advanced.{Advanced}
 use Rattle.steps.proofs.update.updated.Statement.{statement}
 use Rattle.steps.proofs.update.updated.Tie as tie
-use Rattle.steps.proofs.update.updated.Reads as reads
-use Rattle.steps.proofs.update.updated.Lts as lts
-use Rattle.steps.proofs.update.settled.Reads as settled-reads
 
 settled-requires : tie.Need-settled-requires
 settled-requires c κs = search needs

@@ -6,16 +6,9 @@ use Rattle.kit.proofs.Choice.{yes, no}
 use Rattle.monitor.specs.Monitor.{Seen, lowestOf}
 use Rattle.trace.specs.Effect.{badOf}
 use Rattle.listing.specs.declared.word.Word.the-variants as words
-use Rattle.trace.specs.declared.session.Session.{Session}
 use Rattle.trace.specs.declared.session.Effect.{Effect}
 use Rattle.trace.proofs.effect.clock.Statement.{statement}
 use Rattle.trace.proofs.effect.clock.Tie as tie
-use Rattle.trace.proofs.effect.clock.Reads as reads
-use Rattle.trace.proofs.effect.clock.Lts as lts
-use Rattle.kit.proofs.answer.number.Reads as number-reads
-use Rattle.monitor.proofs.monitor.Monitor.lowest.Reads as lowest-reads
-use Rattle.monitor.proofs.monitor.bus_clock.Reads as bus-clock-reads
-use Rattle.trace.proofs.effect.bad.Reads as bad-reads
 
 bad-requires : tie.Need-bad-requires
 bad-requires c κs = search needs

@@ -1,24 +1,17 @@
-use mathlib.Core.Path.{sym, ap, _∙_}
-use Prim.Native.Nat.{ℕ, _+_}
+use mathlib.Core.Path.{ap}
+use Prim.Native.Nat.{ℕ}
 use mathlib.Core.List.{List}
 use native.Mathlib.Omega.{arith}
-use lib.ListN.{length, take, drop}
 use borrow.Author.Needs.{needs}
 use borrow.Author.Tests.{lt-ltb, le-ltb}
 use denote.Ref.{now}
 use Rattle.kit.proofs.Choice.{yes, no}
 use Rattle.trace.specs.Effect.{Effected, effected, withSequence}
 use Rattle.trace.proofs.Parts.{copied-part}
-use Rattle.listing.specs.declared.line.Line.{Line}
 use Rattle.listing.specs.declared.word.Word.the-variants as words
-use Rattle.trace.specs.declared.session.Session.{Session}
 use Rattle.trace.specs.declared.session.Effect.{Effect}
 use Rattle.trace.proofs.effect.memory.Statement.{statement}
 use Rattle.trace.proofs.effect.memory.Tie as tie
-use Rattle.trace.proofs.effect.memory.Reads as reads
-use Rattle.trace.proofs.effect.memory.Lts as lts
-use Rattle.bytes.proofs.copy.Reads as copy-reads
-use Rattle.trace.proofs.effect.bad.Reads as bad-reads
 
 add-end : tie.Need-add-end
 add-end c = search needs

@@ -7,14 +7,9 @@ use Rattle.engine.specs.Read.{Value}
 use Rattle.trace.specs.Effect.{withSequence}
 use Rattle.listing.specs.declared.line.Line.{Line}
 use Rattle.listing.specs.declared.word.Word.the-variants as words
-use Rattle.trace.specs.declared.session.Session.{Session}
 use Rattle.trace.specs.declared.session.Effect.{Effect}
 use Rattle.trace.proofs.effect.register_read.Statement.{statement}
 use Rattle.trace.proofs.effect.register_read.Tie as tie
-use Rattle.trace.proofs.effect.register_read.Reads as reads
-use Rattle.trace.proofs.effect.register_read.Lts as lts
-use Rattle.engine.proofs.read.read.Reads as read-reads
-use Rattle.kit.proofs.answer.number.Reads as number-reads
 
 read-requires : tie.Need-read-requires
 read-requires c κs = search needs

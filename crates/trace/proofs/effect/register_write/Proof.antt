@@ -3,16 +3,10 @@ use Prim.Native.Nat.{ℕ}
 use borrow.Author.Needs.{needs}
 use Rattle.engine.specs.Write.{Wrote}
 use Rattle.trace.specs.Effect.{withEngine}
-use Rattle.listing.specs.declared.line.Line.{Line}
 use Rattle.listing.specs.declared.word.Word.the-variants as words
-use Rattle.trace.specs.declared.session.Session.{Session}
 use Rattle.trace.specs.declared.session.Effect.{Effect}
 use Rattle.trace.proofs.effect.register_write.Statement.{statement}
 use Rattle.trace.proofs.effect.register_write.Tie as tie
-use Rattle.trace.proofs.effect.register_write.Reads as reads
-use Rattle.trace.proofs.effect.register_write.Lts as lts
-use Rattle.engine.proofs.write.write.Reads as write-reads
-use Rattle.kit.proofs.answer.number.Reads as number-reads
 
 write-requires : tie.Need-write-requires
 write-requires c κs = search needs

@@ -4,17 +4,10 @@ use borrow.Author.Tests.{not-true, not-false}
 use Rattle.kit.proofs.Choice.{yes, no}
 use Rattle.engine.specs.declared.state.Engine.{Engine}
 use Rattle.trace.specs.Effect.{withEngine}
-use Rattle.listing.specs.declared.line.Line.{Line}
 use Rattle.listing.specs.declared.word.Word.the-variants as words
-use Rattle.trace.specs.declared.session.Session.{Session}
 use Rattle.trace.specs.declared.session.Effect.{Effect}
 use Rattle.trace.proofs.effect.settings.Statement.{statement}
 use Rattle.trace.proofs.effect.settings.Tie as tie
-use Rattle.trace.proofs.effect.settings.Reads as reads
-use Rattle.trace.proofs.effect.settings.Lts as lts
-use Rattle.engine.proofs.state.fresh.Reads as fresh-reads
-use Rattle.kit.proofs.settings.legal.Reads as legal-reads
-use Rattle.trace.proofs.effect.bad.Reads as bad-reads
 
 legal-requires : tie.Need-legal-requires
 legal-requires c κs = search needs

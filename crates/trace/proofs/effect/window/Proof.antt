@@ -9,9 +9,6 @@ use Rattle.trace.specs.Effect.{effected}
 use Rattle.trace.specs.declared.session.Effect.{Effect}
 use Rattle.trace.proofs.effect.window.Statement.{statement}
 use Rattle.trace.proofs.effect.window.Tie as tie
-use Rattle.trace.proofs.effect.window.Reads as reads
-use Rattle.trace.proofs.effect.window.Lts as lts
-use Rattle.trace.proofs.effect.bad.Reads as bad-reads
 
 cast-used : tie.Need-cast-used
 cast-used c = search needs

@@ -7,11 +7,6 @@ use borrow.Author.Tests.{not-true, not-false}
 use Rattle.trace.proofs.Passing.{Passing, passing-begin, passing-turn, passing-on, passing-full, passing-stops}
 use Rattle.trace.proofs.pass.pass.Statement.{statement}
 use Rattle.trace.proofs.pass.pass.Tie as tie
-use Rattle.trace.proofs.pass.pass.Reads as reads
-use Rattle.trace.proofs.pass.pass.Lts as lts
-use Rattle.listing.proofs.line.put_line.Reads as put-line-reads
-use Rattle.trace.proofs.pass.ready.Reads as ready-reads
-use Rattle.trace.proofs.turn.turn.Reads as turn-reads
 
 abbrev Inv-loop : tie.InvT-loop
 Inv-loop base input ended memory₀ windows₀ out₀ last session₀ at₀ put₀ memory windows out session at put = Passing base input ended session₀ memory₀ windows₀ out₀ session at memory windows out put

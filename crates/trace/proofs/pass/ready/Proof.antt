@@ -5,8 +5,6 @@ use Rattle.trace.specs.declared.session.Mode.{Mode}
 use Rattle.trace.specs.Pass.{readyOf}
 use Rattle.trace.proofs.pass.ready.Statement.{statement}
 use Rattle.trace.proofs.pass.ready.Tie as tie
-use Rattle.trace.proofs.pass.ready.Reads as reads
-use Rattle.trace.proofs.pass.ready.Lts as lts
 
 enum-told : tie.Need-enum-told
 enum-told c = search needs

@@ -6,10 +6,6 @@ use Rattle.trace.specs.declared.session.Mode.the-variants.{Records}
 use Rattle.trace.specs.declared.session.Session.{Session}
 use Rattle.trace.proofs.session.start.Statement.{statement}
 use Rattle.trace.proofs.session.start.Tie as tie
-use Rattle.trace.proofs.session.start.Reads as reads
-use Rattle.trace.proofs.session.start.Lts as lts
-use Rattle.engine.proofs.state.fresh.Reads as state-fresh-reads
-use Rattle.monitor.proofs.monitor.Monitor.fresh.Reads as monitor-Monitor-fresh-reads
 
 fresh-requires : tie.Need-fresh-requires
 fresh-requires c κs = search needs

@@ -4,15 +4,9 @@ use borrow.Author.Needs.{needs}
 use Rattle.kit.proofs.Choice.{yes, no}
 use Rattle.trace.specs.declared.session.Mode.the-variants.{Steps}
 use Rattle.listing.specs.declared.line.Line.{Line}
-use Rattle.trace.specs.declared.session.Session.{Session}
 use Rattle.trace.specs.declared.session.Effect.{Effect}
 use Rattle.trace.proofs.stepping.after_step.Statement.{statement}
 use Rattle.trace.proofs.stepping.after_step.Tie as tie
-use Rattle.trace.proofs.stepping.after_step.Reads as reads
-use Rattle.trace.proofs.stepping.after_step.Lts as lts
-use Rattle.trace.proofs.stepping.event_line.Reads as event-line-reads
-use Rattle.trace.proofs.stepping.is_none.Reads as is-none-reads
-use Rattle.trace.proofs.stepping.stop.Reads as stop-reads
 
 is-none-requires : tie.Need-is-none-requires
 is-none-requires c κs = search needs

@@ -3,9 +3,6 @@ use borrow.Author.Needs.{needs}
 use Rattle.trace.specs.Stepping.{eventLineOf}
 use Rattle.trace.proofs.stepping.event_line.Statement.{statement}
 use Rattle.trace.proofs.stepping.event_line.Tie as tie
-use Rattle.trace.proofs.stepping.event_line.Reads as reads
-use Rattle.trace.proofs.stepping.event_line.Lts as lts
-use Rattle.trace.proofs.stepping.line.Reads as line-reads
 
 enum-told : tie.Need-enum-told
 enum-told c = search needs

@@ -1,8 +1,7 @@
-use mathlib.Core.Path.{refl, sym, ap, ap₂, _∙_}
+use mathlib.Core.Path.{sym, ap, _∙_}
 use Prim.Native.Nat.{ℕ}
-use mathlib.Core.List.{List}
 use native.Mathlib.Omega.{arith}
-use lib.ListN.{length, take}
+use lib.ListN.{take}
 use lib.Seq.{length-take-le}
 use borrow.Author.Needs.{needs}
 use borrow.Author.Tests.{eq-eqb, ne-eqb, le-leb, lt-leb}
@@ -14,12 +13,6 @@ use Rattle.trace.specs.Effect.{effected}
 use Rattle.trace.specs.Stepping.{afterStep}
 use Rattle.trace.proofs.stepping.stepping.Statement.{statement}
 use Rattle.trace.proofs.stepping.stepping.Tie as tie
-use Rattle.trace.proofs.stepping.stepping.Reads as reads
-use Rattle.trace.proofs.stepping.stepping.Lts as lts
-use Rattle.steps.proofs.run.step.Reads as step-reads
-use Rattle.trace.proofs.stepping.after_step.Reads as after-step-reads
-use Rattle.trace.proofs.stepping.stop.Reads as stop-reads
-use Rattle.trace.proofs.stepping.used.Reads as used-reads
 
 stop-requires : tie.Need-stop-requires
 stop-requires c κs = search needs

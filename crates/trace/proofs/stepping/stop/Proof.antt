@@ -7,15 +7,10 @@ use mir.Val.{boolByte}
 use Rattle.engine.specs.Read.{bitIf}
 use Rattle.trace.specs.declared.session.Mode.the-variants.{Records}
 use Rattle.trace.specs.Effect.{withMode}
-use Rattle.listing.specs.declared.line.Line.{Line}
 use Rattle.listing.specs.declared.word.Word.the-variants as words
-use Rattle.trace.specs.declared.session.Session.{Session}
 use Rattle.trace.specs.declared.session.Effect.{Effect}
 use Rattle.trace.proofs.stepping.stop.Statement.{statement}
 use Rattle.trace.proofs.stepping.stop.Tie as tie
-use Rattle.trace.proofs.stepping.stop.Reads as reads
-use Rattle.trace.proofs.stepping.stop.Lts as lts
-use Rattle.engine.proofs.state.busy.Reads as busy-reads
 
 byte : (t : Bool) → boolByte t ≡ bitIf t 1
 byte true = refl

@@ -2,21 +2,11 @@ use mathlib.Core.Path.{sym, ap, subst, _∙_}
 use native.Mathlib.Omega.{arith}
 use borrow.Author.Needs.{needs}
 use denote.Ref.{now}
-use Rattle.record.specs.declared.reading.Body.{Body}
 use Rattle.trace.specs.declared.session.Effect.{Effect}
 use Rattle.trace.specs.Effect.{Effected}
 use Rattle.trace.specs.Turn.{DataFits, applied, onMemory, onWindows, applyOf}
 use Rattle.trace.proofs.turn.apply.Statement.{statement}
 use Rattle.trace.proofs.turn.apply.Tie as tie
-use Rattle.trace.proofs.turn.apply.Reads as reads
-use Rattle.trace.proofs.turn.apply.Lts as lts
-use Rattle.trace.proofs.effect.clock.Reads as clock-reads
-use Rattle.trace.proofs.effect.memory.Reads as memory-reads
-use Rattle.trace.proofs.effect.register_read.Reads as register-read-reads
-use Rattle.trace.proofs.effect.register_write.Reads as register-write-reads
-use Rattle.trace.proofs.effect.settings.Reads as settings-reads
-use Rattle.trace.proofs.effect.window.Reads as window-reads
-use Rattle.trace.proofs.stepping.stepping.Reads as stepping-reads
 
 enum-known-body : tie.Need-enum-known-body
 enum-known-body c = search needs

@@ -10,12 +10,6 @@ use Rattle.trace.specs.Turn.{Applied, applied, turnAs, recordBy, turnedO
 use Rattle.trace.proofs.Records.{data-fits}
 use Rattle.trace.proofs.turn.record_turn.Statement.{statement}
 use Rattle.trace.proofs.turn.record_turn.Tie as tie
-use Rattle.trace.proofs.turn.record_turn.Reads as reads
-use Rattle.trace.proofs.turn.record_turn.Lts as lts
-use Rattle.record.proofs.read.Reads as read-reads
-use Rattle.trace.proofs.effect.bad.Reads as bad-reads
-use Rattle.trace.proofs.turn.apply.Reads as apply-reads
-use Rattle.trace.proofs.turn.onward.Reads as onward-reads
 
 read-requires : tie.Need-read-requires
 read-requires c κs = search needs

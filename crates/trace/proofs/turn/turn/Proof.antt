@@ -6,11 +6,6 @@ use Rattle.trace.specs.Effect.{Effected}
 use Rattle.trace.specs.Turn.{turnAs, onMemory, turnBy, turnOf, turnedOf}
 use Rattle.trace.proofs.turn.turn.Statement.{statement}
 use Rattle.trace.proofs.turn.turn.Tie as tie
-use Rattle.trace.proofs.turn.turn.Reads as reads
-use Rattle.trace.proofs.turn.turn.Lts as lts
-use Rattle.trace.proofs.stepping.stepping.Reads as stepping-reads
-use Rattle.trace.proofs.turn.onward.Reads as onward-reads
-use Rattle.trace.proofs.turn.record_turn.Reads as record-turn-reads
 
 enum-known-mode : tie.Need-enum-known-mode
 enum-known-mode c = search needs

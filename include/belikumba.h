@@ -2,8 +2,9 @@
  * Belikumba for C and C++: the functions of target/host/libbelikumba.a, which `./belikumba lib` proves and builds.
  *
  * Each takes any numbers and any lent bytes, and always ends. What it cannot do it refuses with the number that
- * document 01, "Numbered answers", fixes for that; beside a refusal every count is 0 and no lent byte changes.
- * None keeps what it was lent, holds a state of its own or calls the system: it may be called from any thread.
+ * document 01, "Numbered answers", fixes for that; beside a refusal every other number handed back is 0 and nothing
+ * that was lent changes. None keeps what it was lent, holds a state of its own or calls the system: it may be called
+ * from any thread. What is lent to one call must not overlap, but for parts that are only read.
  */
 #ifndef BELIKUMBA_H
 #define BELIKUMBA_H
@@ -18,9 +19,16 @@ extern "C" {
 /* The numbered answers that the functions below give. */
 enum belikumba_answer {
     BELIKUMBA_DONE = 0,
-    BELIKUMBA_SETTINGS = 1,   /* width not 4, 8, 16, 32, 64 or 128, or beats not 2, 4, 8, 16, 32, 64, 128 or 256 */
-    BELIKUMBA_PLAN_RANGE = 7, /* count 0 or above 8,388,607, or start + count above 2^32 */
-    BELIKUMBA_PLAN_ROOM = 8   /* the plan needs more places than were lent */
+    BELIKUMBA_SETTINGS = 1,     /* width not 4, 8, 16, 32, 64 or 128, or beats not 2, 4, 8, 16, 32, 64, 128 or 256 */
+    BELIKUMBA_MEMORY_SIZE = 2,  /* memory longer than 16,777,216 bytes */
+    BELIKUMBA_OFFSET = 3,       /* no register stands at this offset */
+    BELIKUMBA_BUSY = 4,         /* write ignored: the engine is busy, or in the wrong mode */
+    BELIKUMBA_ERROR_SET = 5,    /* write ignored: an error bit is set */
+    BELIKUMBA_WINDOW_COUNT = 6, /* more than 16 windows */
+    BELIKUMBA_PLAN_RANGE = 7,   /* count 0 or above 8,388,607, or start + count above 2^32 */
+    BELIKUMBA_PLAN_ROOM = 8,    /* the plan needs more places than were lent */
+    BELIKUMBA_STATE = 9,        /* the words are not those of a well-formed engine, or of no monitor */
+    BELIKUMBA_CLOCK = 13        /* a field of the bus clock is out of range */
 };
 
 /* ---- Plan: document 01, "Cutting a transfer" ---- */
@@ -54,6 +62,122 @@ struct belikumba_planned {
  */
 struct belikumba_planned belikumba_plan(uint32_t width, uint32_t beats, uint32_t start, uint32_t count, uint8_t *places,
                                         size_t length);
+
+/* ---- Engine: document 01, "Registers" and "Descriptor and steps" ---- */
+
+/*
+ * An engine is kept by its caller, in 20 numbers that each call is lent:
+ *
+ *      0  width of the bus in bytes           8  CURDESC, the current pointer
+ *      1  beats of a burst at most            9  TAILDESC
+ *      2  SGMode, 0 or 1                     10  the next pointer
+ *      3  IOC_IrqEn, 0 or 1                  11  the next pointer that the fetched descriptor holds
+ *      4  Err_IrqEn, 0 or 1                  12  SA
+ *      5  the number of the CDMASR error     13  DA
+ *         bit that is set, 4, 5, 6, 8, 9     14  BTT
+ *         or 10; 0 where none is             15  the phase: 0 idle, 1 fetch, 2 move, 28 to 31 update, which
+ *      6  IOC_Irq, 0 or 1                        is to write the status word with this bit alone set
+ *      7  Err_Irq, 0 or 1                    16  of the transfer that moves: its source
+ *                                            17  its destination
+ *                                            18  its bytes in all
+ *                                            19  its bytes moved so far; 16 to 19 are 0 in any other phase
+ *
+ * A fresh engine has its width and beats and 0 in all other words: uint32_t engine[BELIKUMBA_ENGINE_WORDS] = {4, 16};
+ *
+ * Any numbers may be lent. The words that no engine has, and those of an engine that is not well formed, get answer 9.
+ * Each engine has one list of words: two engines are the same where their words are.
+ */
+#define BELIKUMBA_ENGINE_WORDS 20
+
+struct belikumba_value {
+    uint32_t answer; /* 0, 1, 3 or 9 */
+    uint32_t value;  /* the register's value, or 1 where the line is high; 0 beside every answer but 0 */
+};
+
+/* Reads the register at `offset`: answers 1, 9, 3, the first that holds, or 0 beside its value. */
+struct belikumba_value belikumba_read(const uint32_t engine[BELIKUMBA_ENGINE_WORDS], uint32_t offset);
+
+/*
+ * Writes `value` to the register at `offset`, and hands back the answer: 1, 9, 3, 5, 4, the first that holds, or 0.
+ * A write of 0 to BTT is answered 0, sets DMAIntErr and Err_Irq and starts nothing.
+ */
+uint32_t belikumba_write(uint32_t engine[BELIKUMBA_ENGINE_WORDS], uint32_t offset, uint32_t value);
+
+/* The interrupt line: answers 1 and 9 in this order, or 0 beside 1 where the line is high. */
+struct belikumba_value belikumba_interrupt_line(const uint32_t engine[BELIKUMBA_ENGINE_WORDS]);
+
+/* What a step did, and the two numbers that a listing has for it. */
+enum belikumba_event {
+    BELIKUMBA_NONE = 0,   /* the engine was idle, or the step was refused: 0, 0 */
+    BELIKUMBA_FETCH = 1,  /* current pointer, 0 */
+    BELIKUMBA_MOVE = 2,   /* destination, bytes */
+    BELIKUMBA_FAULT = 3,  /* destination, number of the CDMASR bit */
+    BELIKUMBA_UPDATE = 4, /* current pointer, status word */
+    BELIKUMBA_HALT = 5    /* current pointer, number of the CDMASR bit */
+};
+
+struct belikumba_stepped {
+    uint32_t answer; /* 0, 1, 2, 6 or 9 */
+    uint32_t event;  /* one of the events above */
+    uint32_t first;
+    uint32_t second;
+};
+
+/*
+ * One step over the `memory_bytes` bytes of memory. `windows` holds sick windows, start and length in turn, in
+ * `window_numbers` numbers, two a window; an odd last number is of no use. The answer is 1, 2, 6, 9, the first that
+ * holds, or 0. Memory and windows may be null pointers where their length is 0, and may change between two steps.
+ */
+struct belikumba_stepped belikumba_step(uint32_t engine[BELIKUMBA_ENGINE_WORDS], uint8_t *memory, size_t memory_bytes,
+                                        const uint32_t *windows, size_t window_numbers);
+
+struct belikumba_ran {
+    uint32_t answer; /* 0, 1, 2, 6 or 9 */
+    uint32_t steps;  /* the number of steps taken; 0 beside every answer but 0 */
+};
+
+/* Steps until the engine is idle or `most` steps are taken; refused as a step is, once, at its start. */
+struct belikumba_ran belikumba_run(uint32_t engine[BELIKUMBA_ENGINE_WORDS], uint8_t *memory, size_t memory_bytes,
+                                   const uint32_t *windows, size_t window_numbers, uint16_t most);
+
+/* ---- Monitor: document 01, "Bus clocks" ---- */
+
+/*
+ * A monitor of the read-address bus is kept by its caller, in 14 numbers that each call is lent:
+ *
+ *     0, 1    the flags: flag n is bit n % 32 of word n / 32
+ *     2, 3    the snapshot, in the same way
+ *     4..13   the clock before, in the order of struct belikumba_clock
+ *
+ * A fresh monitor has 0 in all words. Any numbers may be lent; a word 4 above 7, which no monitor has, gets answer 9.
+ */
+#define BELIKUMBA_MONITOR_WORDS 14
+
+struct belikumba_clock {
+    uint32_t bits; /* bit 0 reset-high (out of reset), bit 1 valid, bit 2 ready; at most 7 */
+    uint32_t address;
+    uint32_t length; /* beats less 1, at most 255 */
+    uint32_t size;   /* at most 7 */
+    uint32_t burst;  /* at most 3 */
+    uint32_t cache;  /* at most 15 */
+    uint32_t prot;   /* at most 7 */
+    uint32_t qos;    /* at most 15 */
+    uint32_t region; /* at most 15 */
+    uint32_t id;
+};
+
+struct belikumba_clocked {
+    uint32_t answer; /* 0, 1, 9 or 13 */
+    uint32_t count;  /* how many flags are up; 0 beside every answer but 0 */
+    uint32_t lowest; /* the number of the lowest flag that is up, or 0 */
+};
+
+/*
+ * One bus clock, on a bus of `width` bytes and bursts of at most `beats` beats: answers 1, 9, 13, the first that
+ * holds, or 0. A refused clock is no clock: the next one's clock before is still the one that was taken last.
+ */
+struct belikumba_clocked belikumba_bus_clock(uint32_t monitor[BELIKUMBA_MONITOR_WORDS], uint32_t width, uint32_t beats,
+                                             struct belikumba_clock clock);
 
 #ifdef __cplusplus
 }

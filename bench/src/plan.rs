@@ -1,5 +1,5 @@
-// The cutter: `belikumba_plan` of the C library beside two cutters written by hand in plain Rust: the independent
-// program's, which walks twice as the proved one does, and one that counts by a formula and walks once.
+// The cutter: `belikumba_plan` of the C library beside two cutters in plain Rust: the independent program's, and one
+// written for this bench alone. Both work out the number of bursts by a formula; the proved one walks to count.
 
 use crate::race::{print_heading, print_row, race};
 use std::hint::black_box;
@@ -37,14 +37,14 @@ const PAGE: u64 = 4096;
 const MOST_BYTES: u32 = 8_388_607;
 const ADDRESS_END: u64 = 1 << 32;
 
-/// The independent program's cutter, which counts its bursts by walking before it writes, as the proved one does.
+/// The independent program's cutter.
 fn independent(width: u32, beats: u32, start: u32, count: u32, places: &mut [u8]) -> Planned {
     let (answer, bursts) = ::independent::cut::plan_bytes(width, beats, start, count, places);
     Planned { answer, bursts }
 }
 
 /// The same by hand: the refusals, the number of bursts by a formula, then one walk that stores each burst at once.
-fn plain(width: u32, beats: u32, start: u32, count: u32, places: &mut [u8]) -> Planned {
+fn by_hand(width: u32, beats: u32, start: u32, count: u32, places: &mut [u8]) -> Planned {
     let refused = |answer| Planned { answer, bursts: 0 };
     if !matches!(width, 4 | 8 | 16 | 32 | 64 | 128)
         || !matches!(beats, 2 | 4 | 8 | 16 | 32 | 64 | 128 | 256)
@@ -112,7 +112,7 @@ fn compare(width: u32, beats: u32, transfers: &[Transfer], places: &mut [u8]) ->
     let mut bursts = 0;
     for transfer in transfers {
         let planned = proved(width, beats, transfer.start, transfer.count, places);
-        let other = plain(width, beats, transfer.start, transfer.count, &mut others);
+        let other = by_hand(width, beats, transfer.start, transfer.count, &mut others);
         assert_eq!(planned, other, "the proved cutter and the plain one differ");
         assert!(places == others, "the proved cutter and the plain one write different places");
         assert_eq!(planned.answer, 0, "a transfer of this bench is refused");
@@ -140,14 +140,14 @@ pub fn bench() {
         let mut places = vec![0; transfers.iter().map(|t| t.count as usize).max().unwrap_or(0)];
         for (width, beats) in [(4, 16), (128, 256)] {
             let bursts = compare(width, beats, &transfers, &mut places);
-            for (name, other) in [("walked", independent as Planner), ("formula", plain as Planner)] {
+            for (name, other) in [("", independent as Planner), (", by hand", by_hand as Planner)] {
                 let times = race(
                     bursts,
                     &mut places[..],
                     |places| plan_all(black_box(proved as Planner), width, beats, &transfers, places),
                     |places| plan_all(black_box(other), width, beats, &transfers, places),
                 );
-                print_row(&format!("{size}, width {width}, beats {beats}, {name}"), &times);
+                print_row(&format!("{size}, width {width}, beats {beats}{name}"), &times);
             }
         }
     }

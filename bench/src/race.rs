@@ -5,6 +5,10 @@ use std::time::{Duration, Instant};
 /// Rounds that each side runs. The best one counts: whatever else runs only makes a round slower.
 const ROUNDS: u32 = 300;
 
+/// A race of long rounds ends after this long, but not before each side has run so many of them.
+const RACE: Duration = Duration::from_millis(400);
+const FEWEST_ROUNDS: u32 = 5;
+
 /// What a round should take at least, so that reading the clock does not show, and a quiet round is likely.
 const ROUND: Duration = Duration::from_millis(1);
 
@@ -25,7 +29,11 @@ pub fn race<T: ?Sized>(
     let once = time(1, shared, &proved).min(time(1, shared, &plain));
     let calls = (ROUND.as_nanos() / once.as_nanos().max(1) + 1) as u32;
     let (mut best_proved, mut best_plain) = (Duration::MAX, Duration::MAX);
-    for _ in 0..ROUNDS {
+    let begun = Instant::now();
+    for round in 0..ROUNDS {
+        if round >= FEWEST_ROUNDS && begun.elapsed() > RACE {
+            break;
+        }
         best_proved = best_proved.min(time(calls, shared, &proved));
         best_plain = best_plain.min(time(calls, shared, &plain));
     }

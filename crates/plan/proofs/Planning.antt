@@ -15,9 +15,8 @@ use Rattle.kit.specs.Answer.{numberOf}
 use Rattle.kit.proofs.Choice.{yes, no, never}
 use Rattle.kit.proofs.Numbers.{number-tells}
 use Rattle.cut.specs.Cut.{cut}
-use Rattle.plan.specs.declared.PlannedForC.{PlannedForC}
 use Rattle.plan.specs.declared.measure.Planned.{Planned}
-use Rattle.plan.specs.Plan.{outOfRange, Measured, refusal, measureOf, Plan, written, measured, seen, seenBytes}
+use Rattle.plan.specs.Plan.{outOfRange, Measured, refusal, measureOf, Plan, written, measured, seen}
 
 -- a range that is not refused
 pub record InRange (start count : ℕ) : Type 0 where
@@ -84,12 +83,5 @@ pub plan-unique : {p q : Planned} {a b : List ℕ} {x : Plan} → seen p a ≡ x
 plan-unique {p} {q} e f =
     let same = e ∙ sym f in
     let answers = number-tells (ap (λ (y : Plan). y .answer) same) in
-    let bursts = ap (λ (y : Plan). y .bursts) same in
-    (λ i. record { answer = answers i; bursts = bursts i }, ap (λ (y : Plan). y .places) same)
-
-pub plan-bytes-unique : {p q : PlannedForC} {a b : List ℕ} {x : Plan} → seenBytes p a ≡ x → seenBytes q b ≡ x → (p ≡ q) × (a ≡ b)
-plan-bytes-unique {p} {q} e f =
-    let same = e ∙ sym f in
-    let answers = ap (λ (y : Plan). y .answer) same in
     let bursts = ap (λ (y : Plan). y .bursts) same in
     (λ i. record { answer = answers i; bursts = bursts i }, ap (λ (y : Plan). y .places) same)

@@ -12,7 +12,6 @@ use Rattle.kit.specs.Answer.{numberOf}
 use Rattle.kit.specs.Word.{bytesOf}
 use Rattle.cut.specs.declared.Burst.{Burst}
 use Rattle.cut.specs.Cut.{cut}
-use Rattle.plan.specs.declared.PlannedForC.{PlannedForC}
 use Rattle.plan.specs.declared.measure.Planned.{Planned}
 
 -- a plan of 0 or too many bytes, or one that leaves the addresses: answer 7
@@ -58,7 +57,7 @@ written m values places = record { answer = m .answer; bursts = m .bursts; place
 abbrev pub planOf : ℕ → ℕ → ℕ → ℕ → List ℕ → Plan
 planOf w l start count places = written (measureOf w l start count (length places)) (placesOf (cut w l start (start + count))) places
 
--- the same for C: four bytes a place
+-- the same over bytes: four a place
 abbrev pub planBytesOf : ℕ → ℕ → ℕ → ℕ → List ℕ → Plan
 planBytesOf w l start count places =
     written (measureOf w l start count (length places / 4)) (littleOf (placesOf (cut w l start (start + count)))) places
@@ -69,6 +68,3 @@ measured r = record { answer = numberOf (r .answer); bursts = r .bursts }
 
 abbrev pub seen : Planned → List ℕ → Plan
 seen r places = record { answer = numberOf (r .answer); bursts = r .bursts; places = places }
-
-abbrev pub seenBytes : PlannedForC → List ℕ → Plan
-seenBytes r places = record { answer = r .answer; bursts = r .bursts; places = places }

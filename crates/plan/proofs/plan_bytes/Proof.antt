@@ -1,4 +1,5 @@
-use Prim.Native.Nat.{_+_, _/_}
+use mathlib.Core.Path.{sym, ap, _∙_}
+use Prim.Native.Nat.{ℕ, _+_, _/_}
 use native.Mathlib.Omega.{arith}
 use borrow.Author.Needs.{needs}
 use denote.Ref.{now}
@@ -6,9 +7,9 @@ use mathlib.Core.List.{[]}
 use lib.ListN.{length}
 use Rattle.cut.specs.Cut.{cut}
 use Rattle.plan.specs.Plan.{placesOf, littleOf}
-use Rattle.plan.proofs.Planning.{planable, zero-answer, writes, keeps}
-use Rattle.plan.proofs.belikumba_plan.Statement.{statement}
-use Rattle.plan.proofs.belikumba_plan.Tie as tie
+use Rattle.plan.proofs.Planning.{planable, zero-answer, given, writes, keeps}
+use Rattle.plan.proofs.plan_bytes.Statement.{statement}
+use Rattle.plan.proofs.plan_bytes.Tie as tie
 
 measure-requires : tie.Need-measure-requires
 measure-requires c κs = search needs
@@ -35,17 +36,17 @@ returns c =
     let a = c .before .before .before .before .before .before .before .before .args in
     let m = c .before .before .before .before .before .before .measure in
     let k = c .before .before .before .before .before .number .ensures in
-    writes (m .result) (m .ensures) k (littleOf (placesOf (cut (a .width) (a .beats) (a .start) (a .start + a .count)))) (now (a .places)) (c .before .before .before .before .if1 .taken) (c .before .before .bytes .ensures)
+    ap (λ (x : ℕ). given x (m .result .bursts) (c .before .before .bytes .last .1 .1 .1 .1 .0)) (sym k) ∙ writes (m .result) (m .ensures) k (littleOf (placesOf (cut (a .width) (a .beats) (a .start) (a .start + a .count)))) (now (a .places)) (c .before .before .before .before .if1 .taken) (c .before .before .bytes .ensures)
 
 returns-2 : tie.Need-returns-2
 returns-2 c =
     let a = c .before .before .before .before .args in
     let m = c .before .before .measure in
     let k = c .before .number .ensures in
-    keeps (m .result) (m .ensures) k (littleOf (placesOf (cut (a .width) (a .beats) (a .start) (a .start + a .count)))) (now (a .places)) (c .if1 .left)
+    ap (λ (x : ℕ). given x (m .result .bursts) (now (a .places))) (sym k) ∙ keeps (m .result) (m .ensures) k (littleOf (placesOf (cut (a .width) (a .beats) (a .start) (a .start + a .count)))) (now (a .places)) (c .if1 .left)
 
-pub belikumba-plan-spec : {M : Type 1} → statement M
-belikumba-plan-spec =
+pub plan-bytes-spec : {M : Type 1} → statement M
+plan-bytes-spec =
     tie.close
     (tie.spec
     measure-requires

@@ -1,0 +1,136 @@
+-- What is stored reads back as the same monitor; what a bus clock leaves; two results of one contract are equal.
+use mathlib.Core.Path.{_≡_, refl, sym, ap, ap₂, _∙_}
+use Prim.Native.Nat.{ℕ, _+_, _*_, _/_, _%_, _^_, _≤_, _<_}
+use mathlib.Core.Bool.{Bool, true, false}
+use mathlib.Core.List.{List}
+use native.Mathlib.Omega.{arith}
+use lib.Dec.{eqb, ltb}
+use borrow.Author.Tests.{eq-eqb, ne-eqb, lt-ltb, le-ltb}
+use Rattle.kit.specs.Answer.{numberOf}
+use Rattle.kit.specs.Settings.{legalSettings}
+use Rattle.kit.proofs.Choice.{yes, no}
+use Rattle.monitor.specs.declared.clock.Clock.{Clock}
+use Rattle.monitor.specs.declared.monitor.Monitor.{Monitor}
+use Rattle.monitor.specs.declared.monitor.Clocked.{Clocked}
+use Rattle.monitor.specs.Monitor.{lowestOf, Seen, seen, busClockOf}
+use Rattle.host.specs.declared.monitor_words.ClockForC.{ClockForC}
+use Rattle.host.specs.declared.bus.ClockedForC.{ClockedForC}
+use Rattle.host.specs.EngineWords.{word}
+use Rattle.host.specs.MonitorWords.{bitIf, bitsOf, clockFrom, lowOf, highOf, joined, monitorWordsOf, fieldsFrom, monitorFrom}
+use Rattle.host.specs.Clocks.{ClockedWords, clockedSeen, refusedOf, clockedWords, busClockWordsOf}
+
+flags-back : (flags : ℕ) → joined (lowOf flags) (highOf flags) ≡ flags
+flags-back flags = omega arith
+
+-- three truths as a number of three bits
+packed : Bool → Bool → Bool → ℕ
+packed a b c = bitIf a 1 + bitIf b 2 + bitIf c 4
+
+module _ where
+  first : (a b c : Bool) → eqb (packed a b c % 2) 1 ≡ a
+  unfolding packed
+  first true true true = refl
+  first true true false = refl
+  first true false true = refl
+  first true false false = refl
+  first false true true = refl
+  first false true false = refl
+  first false false true = refl
+  first false false false = refl
+
+  second : (a b c : Bool) → eqb (packed a b c / 2 % 2) 1 ≡ b
+  unfolding packed
+  second true true true = refl
+  second true true false = refl
+  second true false true = refl
+  second true false false = refl
+  second false true true = refl
+  second false true false = refl
+  second false false true = refl
+  second false false false = refl
+
+  third : (a b c : Bool) → eqb (packed a b c / 4 % 2) 1 ≡ c
+  unfolding packed
+  third true true true = refl
+  third true true false = refl
+  third true false true = refl
+  third true false false = refl
+  third false true true = refl
+  third false true false = refl
+  third false false true = refl
+  third false false false = refl
+
+  few : (a b c : Bool) → packed a b c ≤ 7
+  unfolding packed
+  few true true true = omega arith
+  few true true false = omega arith
+  few true false true = omega arith
+  few true false false = omega arith
+  few false true true = omega arith
+  few false true false = omega arith
+  few false false true = omega arith
+  few false false false = omega arith
+
+-- what is stored reads back as the same monitor, and is a monitor's words
+pub monitor-back : (m : Monitor) → (monitorFrom (monitorWordsOf m) ≡ m) × (word (monitorWordsOf m) 4 ≤ 7)
+unfolding packed
+monitor-back m =
+    let b = m .before in (
+      λ i. record {
+        flags = flags-back (m .flags) i;
+        snapshot = flags-back (m .snapshot) i;
+        before = record {
+          running = first (b .running) (b .valid) (b .ready) i;
+          valid = second (b .running) (b .valid) (b .ready) i;
+          ready = third (b .running) (b .valid) (b .ready) i;
+          address = b .address;
+          length = b .length;
+          size = b .size;
+          burst = b .burst;
+          cache = b .cache;
+          prot = b .prot;
+          qos = b .qos;
+          region = b .region;
+          id = b .id;
+        };
+      },
+      few (b .running) (b .valid) (b .ready),
+    )
+
+-- a bus clock, by its answer
+module _ (w : List ℕ) (width beats : ℕ) (f : ClockForC) where
+  clocks : ClockedWords
+  clocks = clockedWords (busClockOf (monitorFrom w) width beats (clockFrom f)) w
+
+  pub clock-settings : {r : ClockedForC} → legalSettings width beats ≡ false → r ≡ refusedOf 1 → clockedSeen r w ≡ busClockWordsOf w width beats f
+  clock-settings l e = no _ l (ap (λ (x : ClockedForC). clockedSeen x w) e)
+
+  module _ (l : legalSettings width beats ≡ true) where
+    pub clock-state : {r : ClockedForC} → 7 < word w 4 → r ≡ refusedOf 9 → clockedSeen r w ≡ busClockWordsOf w width beats f
+    clock-state h e = yes _ l (yes _ (lt-ltb 7 (word w 4) h) (ap (λ (x : ClockedForC). clockedSeen x w) e))
+
+    module _ (h : word w 4 ≤ 7) where
+      pub clock-bits : {r : ClockedForC} → 7 < f .bits → r ≡ refusedOf 13 → clockedSeen r w ≡ busClockWordsOf w width beats f
+      clock-bits k e = yes _ l (no _ (le-ltb 7 (word w 4) h) (yes _ (lt-ltb 7 (f .bits) k) (ap (λ (x : ClockedForC). clockedSeen x w) e)))
+
+      module _ (k : f .bits ≤ 7) (q : Clocked) {n : ℕ} (e : seen q ≡ busClockOf (monitorFrom w) width beats (clockFrom f)) (told : n ≡ numberOf (q .answer)) where
+        judged : {x : ClockedWords} → x ≡ clockedWords (seen q) w → x ≡ busClockWordsOf w width beats f
+        judged p =
+            yes _ l (no _ (le-ltb 7 (word w 4) h) (no _ (le-ltb 7 (f .bits) k) (p ∙ ap (λ (s : Seen). clockedWords s w) e)))
+
+        pub clock-refused : {r : ClockedForC} → (n ≡ 0 → ⊥) → r ≡ refusedOf n → clockedSeen r w ≡ busClockWordsOf w width beats f
+        clock-refused z p =
+            judged (no _ (ne-eqb (numberOf (q .answer)) 0 (λ y. z (told ∙ y))) (ap (λ (x : ClockedForC). clockedSeen x w) (p ∙ ap refusedOf told)))
+
+        pub clock-taken : {lowest : ℕ} {left : List ℕ} → n ≡ 0 → lowest ≡ lowestOf (q .monitor) → left ≡ monitorWordsOf (q .monitor)
+            → clockedSeen (record { answer = n; count = q .count; lowest = lowest }) left ≡ busClockWordsOf w width beats f
+        clock-taken z p s =
+            judged
+            (yes _ (eq-eqb (numberOf (q .answer)) 0 (sym told ∙ z))
+            (λ i. clockedSeen (record { answer = z i; count = q .count; lowest = p i }) (s i)))
+
+-- two results that one contract allows are equal, and so are the words they leave
+pub clock-unique : {r q : ClockedForC} {v w : List ℕ} {x : ClockedWords} → clockedSeen r v ≡ x → clockedSeen q w ≡ x → (r ≡ q) × (v ≡ w)
+clock-unique e f =
+    let same = e ∙ sym f in
+    (λ i. same i .told, λ i. same i .words)

@@ -1,0 +1,15 @@
+use borrow.Author.Needs.{needs}
+use Rattle.host.proofs.engine_words.lost.Statement.{statement}
+use Rattle.host.proofs.engine_words.lost.Tie as tie
+use Rattle.host.proofs.engine_words.lost.Reads as reads
+use Rattle.host.proofs.engine_words.lost.Lts as lts
+use Rattle.engine.proofs.state.fresh.Reads as fresh-reads
+
+fresh-requires : tie.Need-fresh-requires
+fresh-requires c κs = search needs
+
+returns : tie.Need-returns
+returns c = cc
+
+pub lost-spec : {M : Type 1} → statement M
+lost-spec = tie.close (tie.spec fresh-requires returns)

@@ -1,0 +1,67 @@
+use Rattle.host.specs.EngineWords.{word, phaseFrom}
+use denote.Ref.{now}
+use mathlib.Core.Path.{_≡_, ap, _∙_}
+use Rattle.engine.specs.declared.state.Transfer.{Transfer}
+use borrow.Author.Needs.{needs}
+use Rattle.host.proofs.engine_words.spelled.Statement.{statement}
+use Rattle.host.proofs.engine_words.spelled.Tie as tie
+use Rattle.host.proofs.engine_words.spelled.Reads as reads
+use Rattle.host.proofs.engine_words.spelled.Lts as lts
+use Rattle.host.proofs.engine_words.chain.Reads as chain-reads
+use Rattle.host.proofs.engine_words.control.Reads as control-reads
+use Rattle.host.proofs.engine_words.phase.Reads as phase-reads
+use Rattle.host.proofs.engine_words.settings.Reads as settings-reads
+use Rattle.host.proofs.engine_words.simple.Reads as simple-reads
+use Rattle.host.proofs.engine_words.status.Reads as status-reads
+use Rattle.host.proofs.engine_words.transfer.Reads as transfer-reads
+
+transfer-requires : tie.Need-transfer-requires
+transfer-requires c κs = search needs
+
+settings-requires : tie.Need-settings-requires
+settings-requires c κs = search needs
+
+control-requires : tie.Need-control-requires
+control-requires c κs = search needs
+
+status-requires : tie.Need-status-requires
+status-requires c κs = search needs
+
+chain-requires : tie.Need-chain-requires
+chain-requires c κs = search needs
+
+simple-requires : tie.Need-simple-requires
+simple-requires c κs = search needs
+
+element-copy-out-phase : tie.Need-element-copy-out-phase
+element-copy-out-phase c = search needs
+
+phase-requires : tie.Need-phase-requires
+phase-requires c κs = search needs
+
+returns : tie.Need-returns
+returns c =
+    let w = now (c .before .before .before .before .before .before .before .before .args .words) in
+    let phases = c .phase .ensures ∙ ap (λ (t : Transfer). phaseFrom (word w 15) t) (c .before .before .before .before .before .before .before .transfer .ensures) in
+    λ i. record {
+      settings = c .before .before .before .before .before .before .settings .ensures i;
+      control = c .before .before .before .before .before .control .ensures i;
+      status = c .before .before .before .before .status .ensures i;
+      chain = c .before .before .before .chain .ensures i;
+      simple = c .before .before .simple .ensures i;
+      phase = phases i;
+    }
+
+pub spelled-spec : {M : Type 1} → statement M
+spelled-spec =
+    tie.close
+    (tie.spec
+    transfer-requires
+    settings-requires
+    control-requires
+    status-requires
+    chain-requires
+    simple-requires
+    element-copy-out-phase
+    phase-requires
+    returns)

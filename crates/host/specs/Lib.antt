@@ -1,0 +1,5 @@
+pub mod Planning
+pub mod EngineWords
+pub mod Calls
+pub mod MonitorWords
+pub mod Clocks

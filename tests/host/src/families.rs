@@ -1,0 +1,55 @@
+// The cases: first those that are gone through one by one, then random ones of each family in turn.
+
+use crate::clock_edges;
+use crate::clocks::clocks;
+use crate::coverage::Coverage;
+use crate::edges;
+use crate::large;
+use crate::lone_calls::lone_calls;
+use crate::plans;
+use crate::random::Random;
+use crate::sessions::session;
+
+type Case = fn(&mut Random, &mut Coverage) -> Result<(), String>;
+
+/// Cases that every run takes once.
+const ONCE: [(&str, Case); 12] = [
+    ("registers", edges::registers),
+    ("interrupts", edges::interrupts),
+    ("faults", edges::faults),
+    ("no engines", edges::no_engines),
+    ("settings", edges::settings),
+    ("window counts", edges::window_counts),
+    ("clock fields", clock_edges::clock_fields),
+    ("flags", clock_edges::flags),
+    ("most memory", large::most_memory),
+    ("longest transfer", large::longest_transfer),
+    ("longest runs", large::longest_runs),
+    ("longest plans", plans::longest),
+];
+
+/// Families of random cases, in turn.
+const RANDOM: [(&str, Case); 6] = [
+    ("session", session),
+    ("lone calls", lone_calls),
+    ("session", session),
+    ("clocks", clocks),
+    ("session", session),
+    ("plans", plans::plans),
+];
+
+/// How many cases come before the random ones.
+pub const FIRST: u64 = ONCE.len() as u64;
+
+/// Takes the case `index` of a seed; the error names it.
+pub fn take(seed: u64, index: u64, coverage: &mut Coverage) -> Result<(), String> {
+    let (name, case) = match ONCE.get(index as usize) {
+        Some(case) => *case,
+        None => RANDOM[(index % RANDOM.len() as u64) as usize],
+    };
+    let mut random = Random::new(seed, index);
+    case(&mut random, coverage).map_err(|told| {
+        let again = format!("again by --seed {seed} --case {index}");
+        format!("difference at seed {seed}, case {index} ({name}), {again}\n{told}")
+    })
+}

@@ -1,0 +1,101 @@
+// The few cases that need much memory or many steps.
+
+use crate::coverage::Coverage;
+use crate::engine_desk::{Call, EngineDesk};
+use crate::random::Random;
+use crate::spoil::KINDS;
+use crate::states::fresh;
+use crate::words::{
+    EngineWords, CHAIN_MODE, CURRENT, DESTINATION, FETCH, MOVE, MOVED, PHASE, SOURCE, TAIL, TOTAL,
+    WIDTH,
+};
+
+const MOST_MEMORY: usize = 16_777_216;
+
+fn moving(source: u32, destination: u32, total: u32, moved: u32) -> EngineWords {
+    let mut words = fresh(128, 256);
+    words[PHASE] = MOVE;
+    words[SOURCE] = source;
+    words[DESTINATION] = destination;
+    words[TOTAL] = total;
+    words[MOVED] = moved;
+    words
+}
+
+/// Memory of exactly the most bytes, and of one more, which is refused before windows and state but
+/// after the settings.
+pub fn most_memory(random: &mut Random, coverage: &mut Coverage) -> Result<(), String> {
+    let last = MOST_MEMORY as u32 - 1;
+    let mut desk = EngineDesk::new(&fresh(4, 16), MOST_MEMORY + 1);
+    let bytes = random.bytes(5000);
+    desk.put(last - 4999, &bytes);
+    let mut spoiled = moving(0, 9000, 10, 0);
+    (KINDS[0].spoil)(&mut spoiled, random);
+    let mut unlisted = spoiled;
+    unlisted[WIDTH] = 5;
+    let mut chain = fresh(8, 4);
+    chain[CHAIN_MODE] = 1;
+    chain[PHASE] = FETCH;
+    chain[CURRENT] = MOST_MEMORY as u32 - 64;
+    chain[TAIL] = chain[CURRENT];
+    let engines = [
+        fresh(4, 16),
+        // Up to the last byte, one past it, and from it.
+        moving(last - 4000, last - 99, 100, 0),
+        moving(last - 4000, last - 98, 100, 0),
+        moving(last, 3, 1, 0),
+        chain,
+        spoiled,
+        unlisted,
+    ];
+    let windows = [1; 34];
+    for length in [MOST_MEMORY, MOST_MEMORY + 1] {
+        desk.lend_memory(0, length, false);
+        for words in &engines {
+            for numbers in [0, 33, 34] {
+                desk.lend_windows(&windows[..numbers], false);
+                for call in [Call::Step, Call::Run { most: 9 }] {
+                    desk.set_words(words);
+                    desk.call(call, coverage)?;
+                }
+            }
+        }
+    }
+    Ok(())
+}
+
+/// The longest transfer that memory has room for, to its end: overlapping upward, downward, and up
+/// to a window.
+pub fn longest_transfer(_: &mut Random, coverage: &mut Coverage) -> Result<(), String> {
+    let mut desk = EngineDesk::new(&fresh(4, 16), MOST_MEMORY);
+    let pattern: Vec<u8> =
+        (0..MOST_MEMORY as u32).map(|at| (at.wrapping_mul(2_654_435_761) >> 24) as u8).collect();
+    desk.put(0, &pattern);
+    for (source, destination) in [(0, 100), (3000, 1), (0, 8_388_608)] {
+        desk.set_words(&moving(source, destination, 8_388_607, 0));
+        desk.call(Call::Run { most: u16::MAX }, coverage)?;
+    }
+    desk.lend_windows(&[16_000_000, 1], false);
+    desk.set_words(&moving(0, 8_388_608, 8_388_607, 0));
+    desk.call(Call::Run { most: u16::MAX }, coverage)?;
+    Ok(())
+}
+
+/// Runs that take all the steps that a run can.
+pub fn longest_runs(random: &mut Random, coverage: &mut Coverage) -> Result<(), String> {
+    // Bursts of 8 bytes: one that ends with the last step, one that has a step left, one that is
+    // long from done.
+    let room = 600_000;
+    let bytes = random.bytes(4096);
+    for total in [65_535 * 8, 65_535 * 8 - 8, 65_536 * 8, 8_388_607] {
+        let mut desk = EngineDesk::new(&fresh(4, 2), room);
+        desk.put(0, &bytes);
+        let mut words = moving(0, 8, total, 0);
+        words[..2].copy_from_slice(&[4, 2]);
+        desk.set_words(&words);
+        for most in [u16::MAX, u16::MAX, 0, 1] {
+            desk.call(Call::Run { most }, coverage)?;
+        }
+    }
+    Ok(())
+}

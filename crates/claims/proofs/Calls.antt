@@ -4,74 +4,23 @@ use Prim.Native.Nat.{ℕ, zero, suc, _+_, _-_, _<_}
 use mathlib.Core.Bool.{Bool, true, false}
 use mathlib.Core.List.{List, [], _∷_}
 use native.Mathlib.Omega.{arith}
-use lib.ListN.{length}
-use lib.Dec.{eqb}
 use borrow.Author.Tests.{le-ltb}
 use Rattle.kit.specs.Limits.{addressEnd}
 use Rattle.kit.specs.Settings.{legalSettings}
-use Rattle.kit.specs.Word.{wordAt}
-use Rattle.kit.proofs.Choice.{cases, yes, no}
+use Rattle.kit.proofs.Choice.{yes, no}
 use Rattle.memory.specs.declared.window.Window.{Window}
-use Rattle.memory.specs.declared.verdict.Verdict.{Verdict}
-use Rattle.memory.specs.declared.verdict.Verdict.the-variants.{Okay, Slave as SlaveError, Decode as DecodeError}
-use Rattle.memory.specs.Verdict.{groupOf, worse}
 use Rattle.engine.specs.declared.state.Settings.{Settings}
 use Rattle.engine.specs.declared.state.Simple.{Simple}
 use Rattle.engine.specs.declared.state.Engine.{Engine}
-use Rattle.engine.specs.declared.state.Transfer.{Transfer}
-use Rattle.engine.specs.declared.state.Outcome.{Outcome}
-use Rattle.engine.specs.declared.state.Outcome.the-variants.{Complete, Internal, Slave, Decode}
-use Rattle.engine.specs.declared.state.Phase.{Phase}
-use Rattle.engine.specs.declared.state.Phase.the-variants.{Idle, Fetch, Move, Update}
 use Rattle.engine.specs.State.{busyOf}
-use Rattle.engine.specs.Write.{bit}
 use Rattle.engine.proofs.Writes.{write-keeps-settings, write-keeps-words, write-keeps-well-formed}
-use Rattle.steps.specs.declared.event.Advanced.{Advanced}
-use Rattle.steps.specs.Step.{Next, takeOf, fetchBy, stopOf, moveBy, settledOf, updateBy, advanceBy, advanceOf}
+use Rattle.steps.specs.Step.{Next, advanceOf}
 use Rattle.steps.specs.Run.{Walk, begun, ended, walkFrom, refusalOf}
-use Rattle.steps.proofs.Kept.{advance-settings, advance-well-formed}
+use Rattle.steps.proofs.Kept.{advance-simple, advance-settings, advance-well-formed}
 use Rattle.claims.specs.Transfers.{Act, step, write, read, act, after, steps, Own, left}
 use Rattle.claims.specs.Calls.{Sound, Accept, stepsOf, Run}
 
 -- ---- no step is refused
-
--- steps never change SA, DA and BTT
-advance-simple : (s : Engine) (m : List ℕ) (windows : List Window) → advanceOf s m windows .engine .simple ≡ s .simple
-unfolding advanceOf takeOf
-advance-simple s m windows = go (s .phase)
-  where
-    P : Engine → Type 0
-    P x = x .simple ≡ s .simple
-
-    fetched : (v : Verdict) → fetchBy s m v .engine .simple ≡ s .simple
-    fetched Okay = cases (λ (r : Advanced). r .engine .simple ≡ s .simple) (bit 31 (wordAt m (s .chain .current + 0x1C))) (λ _. refl) (λ _. refl)
-    fetched SlaveError = refl
-    fetched DecodeError = refl
-
-    moved : (t : Transfer) (from at n : ℕ) (v : Verdict) → moveBy s t m from at n v .engine .simple ≡ s .simple
-    moved t from at n Okay = cases P (eqb (t .moved + n) (t .total)) (λ _. cases P (s .control .chain) (λ _. refl) (λ _. refl)) (λ _. refl)
-    moved t from at n SlaveError = cases P (s .control .chain) (λ _. refl) (λ _. refl)
-    moved t from at n DecodeError = cases P (s .control .chain) (λ _. refl) (λ _. refl)
-
-    settled : (o : Outcome) → settledOf s o .simple ≡ s .simple
-    settled Complete = cases P (eqb (s .chain .current) (s .chain .tail)) (λ _. refl) (λ _. refl)
-    settled Internal = refl
-    settled Slave = refl
-    settled Decode = refl
-
-    updated : (o : Outcome) (v : Verdict) → updateBy s o m v .engine .simple ≡ s .simple
-    updated o Okay = settled o
-    updated o SlaveError = refl
-    updated o DecodeError = refl
-
-    go : (p : Phase) → advanceBy s m windows p .engine .simple ≡ s .simple
-    go Idle = refl
-    go Fetch = fetched (groupOf (length m) windows (s .chain .current) 32)
-    go (Move t) =
-        moved t (t .source + t .moved) (t .destination + t .moved) (stopOf s t - (t .destination + t .moved))
-        (worse (groupOf (length m) windows (t .source + t .moved) (stopOf s t - (t .destination + t .moved)))
-        (groupOf (length m) windows (t .destination + t .moved) (stopOf s t - (t .destination + t .moved))))
-    go (Update o) = updated o (groupOf (length m) windows (s .chain .current + 0x1C) 4)
 
 pub accept : Accept
 unfolding refusalOf

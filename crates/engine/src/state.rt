@@ -4,6 +4,7 @@ use kit::limits::MOST_BYTES;
 use kit::logic::both;
 use kit::logic::either;
 ghost use mathlib.Core.Path.{_≡_};
+ghost use Rattle.engine.specs.Read.{errorBitOf};
 ghost use Rattle.engine.specs.State.{freshOf, busyOf, errorSetOf, aligned, transferFits, phaseFits, wellFormedOf, interruptLineOf};
 
 // Width in bytes and beats of a burst.
@@ -139,6 +140,21 @@ pub fn error_set(bit: ErrorBit) -> bool
         ErrorBit::SgInternal => true,
         ErrorBit::SgSlave => true,
         ErrorBit::SgDecode => true,
+    }
+}
+
+// The number of a CDMASR error bit.
+pub fn bit_number(bit: ErrorBit) -> u32
+    ensures { λ r. ⌜ r ≡ errorBitOf bit ⌝ }
+{
+    match bit {
+        ErrorBit::Clear => 0,
+        ErrorBit::DmaInternal => 4,
+        ErrorBit::DmaSlave => 5,
+        ErrorBit::DmaDecode => 6,
+        ErrorBit::SgInternal => 8,
+        ErrorBit::SgSlave => 9,
+        ErrorBit::SgDecode => 10,
     }
 }
 

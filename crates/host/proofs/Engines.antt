@@ -1,14 +1,13 @@
 -- What is stored reads back as the same engine, and what reads back is what was stored or no engine.
-use mathlib.Core.Path.{_≡_, refl, sym, ap, ap₂, _∙_}
+use mathlib.Core.Path.{_≡_, refl, sym, ap, _∙_}
 use Prim.Native.Nat.{ℕ}
 use mathlib.Core.Bool.{Bool, true, false}
 use mathlib.Core.List.{List, [], _∷_}
 use mathlib.Core.Logic.{_⊎_, inl, inr}
 use lib.Dec.{eqb}
 use Rattle.kit.specs.Choice.{when}
-use Rattle.kit.proofs.Choice.{yes, no, decide}
+use Rattle.kit.proofs.Choice.{yes, no}
 use Rattle.engine.specs.declared.state.Settings.{Settings}
-use Rattle.engine.specs.declared.state.Transfer.{Transfer}
 use Rattle.engine.specs.declared.state.Engine.{Engine}
 use Rattle.engine.specs.declared.state.ErrorBit.{ErrorBit}
 use Rattle.engine.specs.declared.state.ErrorBit.the-variants.{Clear, DmaInternal, DmaSlave, DmaDecode, SgInternal, SgSlave, SgDecode}

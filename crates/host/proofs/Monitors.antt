@@ -1,22 +1,21 @@
 -- What is stored reads back as the same monitor; what a bus clock leaves; two results of one contract are equal.
-use mathlib.Core.Path.{_≡_, refl, sym, ap, ap₂, _∙_}
-use Prim.Native.Nat.{ℕ, _+_, _*_, _/_, _%_, _^_, _≤_, _<_}
+use mathlib.Core.Path.{_≡_, refl, sym, ap, _∙_}
+use Prim.Native.Nat.{ℕ, _+_, _/_, _%_, _≤_, _<_}
 use mathlib.Core.Bool.{Bool, true, false}
 use mathlib.Core.List.{List}
 use native.Mathlib.Omega.{arith}
-use lib.Dec.{eqb, ltb}
+use lib.Dec.{eqb}
 use borrow.Author.Tests.{eq-eqb, ne-eqb, lt-ltb, le-ltb}
 use Rattle.kit.specs.Answer.{numberOf}
 use Rattle.kit.specs.Settings.{legalSettings}
 use Rattle.kit.proofs.Choice.{yes, no}
-use Rattle.monitor.specs.declared.clock.Clock.{Clock}
 use Rattle.monitor.specs.declared.monitor.Monitor.{Monitor}
 use Rattle.monitor.specs.declared.monitor.Clocked.{Clocked}
 use Rattle.monitor.specs.Monitor.{lowestOf, Seen, seen, busClockOf}
 use Rattle.host.specs.declared.monitor_words.ClockForC.{ClockForC}
 use Rattle.host.specs.declared.bus.ClockedForC.{ClockedForC}
 use Rattle.host.specs.EngineWords.{word}
-use Rattle.host.specs.MonitorWords.{bitIf, bitsOf, clockFrom, lowOf, highOf, joined, monitorWordsOf, fieldsFrom, monitorFrom}
+use Rattle.host.specs.MonitorWords.{bitIf, clockFrom, lowOf, highOf, joined, monitorWordsOf, monitorFrom}
 use Rattle.host.specs.Clocks.{ClockedWords, clockedSeen, refusedOf, clockedWords, busClockWordsOf}
 
 flags-back : (flags : ℕ) → joined (lowOf flags) (highOf flags) ≡ flags
@@ -26,63 +25,31 @@ flags-back flags = omega arith
 packed : Bool → Bool → Bool → ℕ
 packed a b c = bitIf a 1 + bitIf b 2 + bitIf c 4
 
-module _ where
-  first : (a b c : Bool) → eqb (packed a b c % 2) 1 ≡ a
-  unfolding packed
-  first true true true = refl
-  first true true false = refl
-  first true false true = refl
-  first true false false = refl
-  first false true true = refl
-  first false true false = refl
-  first false false true = refl
-  first false false false = refl
-
-  second : (a b c : Bool) → eqb (packed a b c / 2 % 2) 1 ≡ b
-  unfolding packed
-  second true true true = refl
-  second true true false = refl
-  second true false true = refl
-  second true false false = refl
-  second false true true = refl
-  second false true false = refl
-  second false false true = refl
-  second false false false = refl
-
-  third : (a b c : Bool) → eqb (packed a b c / 4 % 2) 1 ≡ c
-  unfolding packed
-  third true true true = refl
-  third true true false = refl
-  third true false true = refl
-  third true false false = refl
-  third false true true = refl
-  third false true false = refl
-  third false false true = refl
-  third false false false = refl
-
-  few : (a b c : Bool) → packed a b c ≤ 7
-  unfolding packed
-  few true true true = omega arith
-  few true true false = omega arith
-  few true false true = omega arith
-  few true false false = omega arith
-  few false true true = omega arith
-  few false true false = omega arith
-  few false false true = omega arith
-  few false false false = omega arith
+unpacked : (a b c : Bool)
+    → (eqb (packed a b c % 2) 1 ≡ a) × (eqb (packed a b c / 2 % 2) 1 ≡ b) × (eqb (packed a b c / 4 % 2) 1 ≡ c) × (packed a b c ≤ 7)
+unfolding packed
+unpacked true true true = (refl, refl, refl, omega arith)
+unpacked true true false = (refl, refl, refl, omega arith)
+unpacked true false true = (refl, refl, refl, omega arith)
+unpacked true false false = (refl, refl, refl, omega arith)
+unpacked false true true = (refl, refl, refl, omega arith)
+unpacked false true false = (refl, refl, refl, omega arith)
+unpacked false false true = (refl, refl, refl, omega arith)
+unpacked false false false = (refl, refl, refl, omega arith)
 
 -- what is stored reads back as the same monitor, and is a monitor's words
 pub monitor-back : (m : Monitor) → (monitorFrom (monitorWordsOf m) ≡ m) × (word (monitorWordsOf m) 4 ≤ 7)
 unfolding packed
 monitor-back m =
-    let b = m .before in (
+    let b = m .before in
+    let bits = unpacked (b .running) (b .valid) (b .ready) in (
       λ i. record {
         flags = flags-back (m .flags) i;
         snapshot = flags-back (m .snapshot) i;
         before = record {
-          running = first (b .running) (b .valid) (b .ready) i;
-          valid = second (b .running) (b .valid) (b .ready) i;
-          ready = third (b .running) (b .valid) (b .ready) i;
+          running = bits .0 i;
+          valid = bits .1 i;
+          ready = bits .2 i;
           address = b .address;
           length = b .length;
           size = b .size;
@@ -94,14 +61,11 @@ monitor-back m =
           id = b .id;
         };
       },
-      few (b .running) (b .valid) (b .ready),
+      bits .3,
     )
 
 -- a bus clock, by its answer
 module _ (w : List ℕ) (width beats : ℕ) (f : ClockForC) where
-  clocks : ClockedWords
-  clocks = clockedWords (busClockOf (monitorFrom w) width beats (clockFrom f)) w
-
   pub clock-settings : {r : ClockedForC} → legalSettings width beats ≡ false → r ≡ refusedOf 1 → clockedSeen r w ≡ busClockWordsOf w width beats f
   clock-settings l e = no _ l (ap (λ (x : ClockedForC). clockedSeen x w) e)
 

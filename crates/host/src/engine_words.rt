@@ -9,29 +9,15 @@ use engine::state::Settings;
 use engine::state::Simple;
 use engine::state::Status;
 use engine::state::Transfer;
+use engine::state::bit_number;
 use engine::state::fresh;
 ghost use mathlib.Core.Path.{_≡_};
-ghost use Rattle.engine.specs.Read.{errorBitOf};
 ghost use Rattle.host.specs.EngineWords.{truth as truthOf, phaseNumberOf, movingOf, wordsOf, errorBitFrom, phaseFrom, settingsFrom, controlFrom, statusFrom, chainFrom, simpleFrom, transferFrom, engineFrom, sameWords, lostOf, engineOf};
 
 fn truth(set: bool) -> u32
     ensures { λ r. ⌜ r ≡ truthOf set ⌝ }
 {
     if set { 1 } else { 0 }
-}
-
-fn error_bit_number(bit: ErrorBit) -> u32
-    ensures { λ r. ⌜ r ≡ errorBitOf bit ⌝ }
-{
-    match bit {
-        ErrorBit::Clear => 0,
-        ErrorBit::DmaInternal => 4,
-        ErrorBit::DmaSlave => 5,
-        ErrorBit::DmaDecode => 6,
-        ErrorBit::SgInternal => 8,
-        ErrorBit::SgSlave => 9,
-        ErrorBit::SgDecode => 10,
-    }
 }
 
 // An update by the bit of the status word that it is to write.
@@ -82,7 +68,7 @@ pub fn store(engine: Engine, words: &mut [u32; 20])
         truth(engine.control.chain),
         truth(engine.control.complete),
         truth(engine.control.error),
-        error_bit_number(bit),
+        bit_number(bit),
         truth(status.complete),
         truth(status.error),
         engine.chain.current,

@@ -20,6 +20,8 @@ use Rattle.memory.specs.declared.verdict.Verdict.the-variants.{Okay, Slave as S
 use Rattle.memory.specs.Verdict.{groupOf, worse}
 use Rattle.memory.proofs.Groups.{group-okay-fits}
 use Rattle.memory.proofs.Verdicts.{worse-okay}
+use Rattle.engine.specs.declared.state.Settings.{Settings}
+use Rattle.engine.specs.declared.state.Simple.{Simple}
 use Rattle.engine.specs.declared.state.Engine.{Engine}
 use Rattle.engine.specs.declared.state.Transfer.{Transfer}
 use Rattle.engine.specs.declared.state.ErrorBit.{ErrorBit}
@@ -201,34 +203,39 @@ unfolding advanceOf
 advance-well-formed s m windows legals small bytes e =
     well-formed-test (advanceBy s m windows (s .phase) .engine) (phase-kept s m windows legals small bytes (well-formed s e) (s .phase) refl)
 
-pub advance-settings : (s : Engine) (m : List ℕ) (windows : List Window) → advanceOf s m windows .engine .settings ≡ s .settings
+-- what a step never changes: the settings, and SA, DA and BTT
+abbrev pub lasting : Engine → Settings × Simple
+lasting x = (x .settings, x .simple)
+
+pub advance-lasting : (s : Engine) (m : List ℕ) (windows : List Window) → lasting (advanceOf s m windows .engine) ≡ lasting s
 unfolding advanceOf takeOf
-advance-settings s m windows = go (s .phase)
+advance-lasting s m windows = go (s .phase)
   where
-    fetched : (v : Verdict) → fetchBy s m v .engine .settings ≡ s .settings
-    fetched Okay = cases (λ (r : Advanced). r .engine .settings ≡ s .settings) (bit 31 (wordAt m (s .chain .current + 0x1C))) (λ _. refl) (λ _. refl)
+    P : Engine → Type 0
+    P x = lasting x ≡ lasting s
+
+    fetched : (v : Verdict) → P (fetchBy s m v .engine)
+    fetched Okay = cases (λ (r : Advanced). P (r .engine)) (bit 31 (wordAt m (s .chain .current + 0x1C))) (λ _. refl) (λ _. refl)
     fetched SlaveError = refl
     fetched DecodeError = refl
 
-    moved : (t : Transfer) (from at n : ℕ) (v : Verdict) → moveBy s t m from at n v .engine .settings ≡ s .settings
-    moved t from at n Okay =
-        cases (λ (x : Engine). x .settings ≡ s .settings) (eqb (t .moved + n) (t .total))
-        (λ _. cases (λ (x : Engine). x .settings ≡ s .settings) (s .control .chain) (λ _. refl) (λ _. refl)) (λ _. refl)
-    moved t from at n SlaveError = cases (λ (x : Engine). x .settings ≡ s .settings) (s .control .chain) (λ _. refl) (λ _. refl)
-    moved t from at n DecodeError = cases (λ (x : Engine). x .settings ≡ s .settings) (s .control .chain) (λ _. refl) (λ _. refl)
+    moved : (t : Transfer) (from at n : ℕ) (v : Verdict) → P (moveBy s t m from at n v .engine)
+    moved t from at n Okay = cases P (eqb (t .moved + n) (t .total)) (λ _. cases P (s .control .chain) (λ _. refl) (λ _. refl)) (λ _. refl)
+    moved t from at n SlaveError = cases P (s .control .chain) (λ _. refl) (λ _. refl)
+    moved t from at n DecodeError = cases P (s .control .chain) (λ _. refl) (λ _. refl)
 
-    settled : (o : Outcome) → settledOf s o .settings ≡ s .settings
-    settled Complete = cases (λ (x : Engine). x .settings ≡ s .settings) (eqb (s .chain .current) (s .chain .tail)) (λ _. refl) (λ _. refl)
+    settled : (o : Outcome) → P (settledOf s o)
+    settled Complete = cases P (eqb (s .chain .current) (s .chain .tail)) (λ _. refl) (λ _. refl)
     settled Internal = refl
     settled Slave = refl
     settled Decode = refl
 
-    updated : (o : Outcome) (v : Verdict) → updateBy s o m v .engine .settings ≡ s .settings
+    updated : (o : Outcome) (v : Verdict) → P (updateBy s o m v .engine)
     updated o Okay = settled o
     updated o SlaveError = refl
     updated o DecodeError = refl
 
-    go : (p : Phase) → advanceBy s m windows p .engine .settings ≡ s .settings
+    go : (p : Phase) → P (advanceBy s m windows p .engine)
     go Idle = refl
     go Fetch = fetched (groupOf (length m) windows (s .chain .current) 32)
     go (Move t) =
@@ -236,6 +243,12 @@ advance-settings s m windows = go (s .phase)
         (worse (groupOf (length m) windows (t .source + t .moved) (stopOf s t - (t .destination + t .moved)))
         (groupOf (length m) windows (t .destination + t .moved) (stopOf s t - (t .destination + t .moved))))
     go (Update o) = updated o (groupOf (length m) windows (s .chain .current + 0x1C) 4)
+
+pub advance-settings : (s : Engine) (m : List ℕ) (windows : List Window) → advanceOf s m windows .engine .settings ≡ s .settings
+advance-settings s m windows = ap (λ (k : Settings × Simple). k .0) (advance-lasting s m windows)
+
+pub advance-simple : (s : Engine) (m : List ℕ) (windows : List Window) → advanceOf s m windows .engine .simple ≡ s .simple
+advance-simple s m windows = ap (λ (k : Settings × Simple). k .1) (advance-lasting s m windows)
 
 pub advance-length : (s : Engine) (m : List ℕ) (windows : List Window) → length (advanceOf s m windows .memory) ≡ length m
 unfolding advanceOf

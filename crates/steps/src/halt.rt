@@ -5,24 +5,9 @@ use engine::state::Engine;
 use engine::state::ErrorBit;
 use engine::state::Phase;
 use engine::state::Status;
+use engine::state::bit_number;
 ghost use mathlib.Core.Path.{_≡_};
-ghost use Rattle.engine.specs.Read.{errorBitOf};
 ghost use Rattle.steps.specs.Step.{haltedOf, haltOf};
-
-// The number of a CDMASR error bit.
-pub fn bit_number(bit: ErrorBit) -> u32
-    ensures { λ r. ⌜ r ≡ errorBitOf bit ⌝ }
-{
-    match bit {
-        ErrorBit::Clear => 0,
-        ErrorBit::DmaInternal => 4,
-        ErrorBit::DmaSlave => 5,
-        ErrorBit::DmaDecode => 6,
-        ErrorBit::SgInternal => 8,
-        ErrorBit::SgSlave => 9,
-        ErrorBit::SgDecode => 10,
-    }
-}
 
 pub fn halted(engine: Engine, bit: ErrorBit) -> Engine
     ensures { λ r. ⌜ r ≡ haltedOf engine bit ⌝ }

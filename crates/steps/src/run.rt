@@ -19,7 +19,6 @@ ghost use Rattle.kit.specs.Limits.{mostMemory};
 ghost use Rattle.kit.specs.Settings.{legalSettings};
 ghost use Rattle.memory.specs.Windows.{windowsOf};
 ghost use Rattle.engine.specs.State.{wellFormedOf};
-ghost use Rattle.steps.specs.Step.{next};
 ghost use Rattle.steps.specs.Run.{refusalOf, walkFrom, begun, walked, stepOf, stepSeen, runOf, runSeen};
 
 // A step's answer, its event, none beside a refusal, and the state after it.

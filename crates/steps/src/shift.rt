@@ -1,7 +1,6 @@
 // The move of the first burst of the cut of what remains.
 use crate::event::Advanced;
 use crate::event::Event;
-use crate::halt::bit_number;
 use crate::halt::halted;
 use cut::Burst;
 use cut::burst_end;
@@ -11,6 +10,7 @@ use engine::state::Outcome;
 use engine::state::Phase;
 use engine::state::Status;
 use engine::state::Transfer;
+use engine::state::bit_number;
 use memory::burst::copy;
 use memory::verdict::Verdict;
 use memory::verdict::judge_pair;

@@ -13,9 +13,8 @@ use kit::word::store;
 use memory::verdict::Verdict;
 use memory::verdict::judge;
 ghost use mathlib.Core.Path.{_≡_};
-ghost use Prim.Native.Nat.{_+_, _≤_, _<_, _%_};
+ghost use Prim.Native.Nat.{_+_};
 ghost use Rattle.memory.specs.Windows.{windowsOf};
-ghost use Rattle.kit.specs.Limits.{addressEnd};
 ghost use Rattle.steps.specs.Step.{next, statusWordOf, completedOf, settledOf, updatedOf, updateOf};
 
 // The word for an outcome: complete is bit 31; an error only bit 30, 29 or 28.

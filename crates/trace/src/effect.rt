@@ -16,7 +16,7 @@ use monitor::monitor::bus_clock;
 ghost use mathlib.Core.Path.{_≡_};
 ghost use Prim.Native.Nat.{_+_, _≤_};
 ghost use lib.ListN.{length};
-ghost use Rattle.trace.specs.Effect.{Effected, effected, badOf, settingsOf, memoryOf, windowOf, writeOf, readOf, clockOf};
+ghost use Rattle.trace.specs.Effect.{effected, badOf, settingsOf, memoryOf, windowOf, writeOf, readOf, clockOf};
 
 // The last good sequence number, the answer and the mark's position; the replay is over.
 pub fn bad(session: Session, answer: u32, position: u64) -> Effect

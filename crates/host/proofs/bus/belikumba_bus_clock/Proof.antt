@@ -5,20 +5,10 @@ use Rattle.monitor.specs.declared.clock.Clock.{Clock}
 use denote.Ref.{now}
 use borrow.Author.Tests.{not-true, not-false}
 use native.Mathlib.Omega.{arith}
-use mathlib.Core.Path.{sym, ap, ap₂, _∙_}
+use mathlib.Core.Path.{sym, ap₂, _∙_}
 use borrow.Author.Needs.{needs}
 use Rattle.host.proofs.bus.belikumba_bus_clock.Statement.{statement}
 use Rattle.host.proofs.bus.belikumba_bus_clock.Tie as tie
-use Rattle.host.proofs.bus.belikumba_bus_clock.Reads as reads
-use Rattle.host.proofs.bus.belikumba_bus_clock.Lts as lts
-use Rattle.host.proofs.bus.refused.Reads as refused-reads
-use Rattle.host.proofs.monitor_words.clock.Reads as clock-reads
-use Rattle.host.proofs.monitor_words.load.Reads as load-reads
-use Rattle.host.proofs.monitor_words.store.Reads as store-reads
-use Rattle.kit.proofs.answer.number.Reads as number-reads
-use Rattle.kit.proofs.settings.legal.Reads as legal-reads
-use Rattle.monitor.proofs.monitor.Monitor.lowest.Reads as lowest-reads
-use Rattle.monitor.proofs.monitor.bus_clock.Reads as bus-clock-reads
 
 legal-requires : tie.Need-legal-requires
 legal-requires c κs = search needs

@@ -1,13 +1,11 @@
 use Rattle.host.specs.EngineWords.{errorBitFrom}
-use Rattle.engine.specs.declared.state.ErrorBit.the-variants.{Clear, DmaInternal, DmaSlave, DmaDecode, SgInternal, SgSlave, SgDecode}
+use Rattle.engine.specs.declared.state.ErrorBit.the-variants.{DmaInternal, DmaSlave, DmaDecode, SgInternal, SgSlave, SgDecode}
 use Rattle.kit.proofs.Choice.{no}
 use borrow.Author.Tests.{ne-eqb}
 use Prim.Native.Nat.{ℕ}
-use mathlib.Core.Path.{_≡_, refl, sym, ap, ap₂, subst, _∙_}
+use mathlib.Core.Path.{_≡_, refl, sym, subst}
 use Rattle.host.proofs.engine_words.error_bit.Statement.{statement}
 use Rattle.host.proofs.engine_words.error_bit.Tie as tie
-use Rattle.host.proofs.engine_words.error_bit.Reads as reads
-use Rattle.host.proofs.engine_words.error_bit.Lts as lts
 
 returns : tie.Need-returns
 unfolding errorBitFrom

@@ -7,12 +7,6 @@ use Prim.Native.Nat.{ℕ}
 use borrow.Author.Needs.{needs}
 use Rattle.host.proofs.engine_words.load.Statement.{statement}
 use Rattle.host.proofs.engine_words.load.Tie as tie
-use Rattle.host.proofs.engine_words.load.Reads as reads
-use Rattle.host.proofs.engine_words.load.Lts as lts
-use Rattle.host.proofs.engine_words.lost.Reads as lost-reads
-use Rattle.host.proofs.engine_words.same.Reads as same-reads
-use Rattle.host.proofs.engine_words.spelled.Reads as spelled-reads
-use Rattle.host.proofs.engine_words.store.Reads as store-reads
 
 spelled-requires : tie.Need-spelled-requires
 spelled-requires c κs = search needs

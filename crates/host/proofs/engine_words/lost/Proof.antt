@@ -1,9 +1,6 @@
 use borrow.Author.Needs.{needs}
 use Rattle.host.proofs.engine_words.lost.Statement.{statement}
 use Rattle.host.proofs.engine_words.lost.Tie as tie
-use Rattle.host.proofs.engine_words.lost.Reads as reads
-use Rattle.host.proofs.engine_words.lost.Lts as lts
-use Rattle.engine.proofs.state.fresh.Reads as fresh-reads
 
 fresh-requires : tie.Need-fresh-requires
 fresh-requires c κs = search needs

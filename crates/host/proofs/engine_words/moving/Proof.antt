@@ -1,11 +1,9 @@
 use Rattle.host.specs.EngineWords.{movingOf}
 use Rattle.engine.specs.declared.state.Phase.{Phase}
-use mathlib.Core.Path.{_≡_, refl, sym, ap}
+use mathlib.Core.Path.{sym, ap}
 use borrow.Author.Needs.{needs}
 use Rattle.host.proofs.engine_words.moving.Statement.{statement}
 use Rattle.host.proofs.engine_words.moving.Tie as tie
-use Rattle.host.proofs.engine_words.moving.Reads as reads
-use Rattle.host.proofs.engine_words.moving.Lts as lts
 
 enum-told : tie.Need-enum-told
 enum-told c = search needs

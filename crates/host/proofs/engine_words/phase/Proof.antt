@@ -1,14 +1,12 @@
 use Rattle.host.specs.EngineWords.{phaseFrom}
-use Rattle.engine.specs.declared.state.Phase.the-variants.{Idle, Fetch, Move, Update}
+use Rattle.engine.specs.declared.state.Phase.the-variants.{Fetch, Move, Update}
 use Rattle.engine.specs.declared.state.Outcome.the-variants.{Complete, Internal, Slave, Decode}
 use Rattle.kit.proofs.Choice.{no}
 use borrow.Author.Tests.{ne-eqb}
 use Prim.Native.Nat.{ℕ}
-use mathlib.Core.Path.{_≡_, refl, sym, ap, ap₂, subst, _∙_}
+use mathlib.Core.Path.{_≡_, refl, sym, subst}
 use Rattle.host.proofs.engine_words.phase.Statement.{statement}
 use Rattle.host.proofs.engine_words.phase.Tie as tie
-use Rattle.host.proofs.engine_words.phase.Reads as reads
-use Rattle.host.proofs.engine_words.phase.Lts as lts
 
 returns : tie.Need-returns
 unfolding phaseFrom

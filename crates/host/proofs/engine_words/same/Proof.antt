@@ -5,11 +5,9 @@ use Rattle.host.proofs.Same.{same-lengths, same-differ, same-on, same-e
 use lib.ListN.{length, drop}
 use native.Mathlib.Omega.{arith}
 use Prim.Native.Nat.{_-_, _≤_}
-use mathlib.Core.Path.{_≡_, refl, sym, ap, _∙_}
+use mathlib.Core.Path.{_≡_, refl, _∙_}
 use Rattle.host.proofs.engine_words.same.Statement.{statement}
 use Rattle.host.proofs.engine_words.same.Tie as tie
-use Rattle.host.proofs.engine_words.same.Reads as reads
-use Rattle.host.proofs.engine_words.same.Lts as lts
 
 abbrev Inv-loop : tie.InvT-loop
 Inv-loop words others i₀ i = (i ≤ length words) × (sameWords (drop i words) (drop i others) ≡ sameWords words others)

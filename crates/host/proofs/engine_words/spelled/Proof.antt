@@ -1,19 +1,10 @@
 use Rattle.host.specs.EngineWords.{word, phaseFrom}
 use denote.Ref.{now}
-use mathlib.Core.Path.{_≡_, ap, _∙_}
+use mathlib.Core.Path.{ap, _∙_}
 use Rattle.engine.specs.declared.state.Transfer.{Transfer}
 use borrow.Author.Needs.{needs}
 use Rattle.host.proofs.engine_words.spelled.Statement.{statement}
 use Rattle.host.proofs.engine_words.spelled.Tie as tie
-use Rattle.host.proofs.engine_words.spelled.Reads as reads
-use Rattle.host.proofs.engine_words.spelled.Lts as lts
-use Rattle.host.proofs.engine_words.chain.Reads as chain-reads
-use Rattle.host.proofs.engine_words.control.Reads as control-reads
-use Rattle.host.proofs.engine_words.phase.Reads as phase-reads
-use Rattle.host.proofs.engine_words.settings.Reads as settings-reads
-use Rattle.host.proofs.engine_words.simple.Reads as simple-reads
-use Rattle.host.proofs.engine_words.status.Reads as status-reads
-use Rattle.host.proofs.engine_words.transfer.Reads as transfer-reads
 
 transfer-requires : tie.Need-transfer-requires
 transfer-requires c κs = search needs

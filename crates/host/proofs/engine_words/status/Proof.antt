@@ -1,9 +1,6 @@
 use borrow.Author.Needs.{needs}
 use Rattle.host.proofs.engine_words.status.Statement.{statement}
 use Rattle.host.proofs.engine_words.status.Tie as tie
-use Rattle.host.proofs.engine_words.status.Reads as reads
-use Rattle.host.proofs.engine_words.status.Lts as lts
-use Rattle.host.proofs.engine_words.error_bit.Reads as error-bit-reads
 
 element-copy-out-error-bit : tie.Need-element-copy-out-error-bit
 element-copy-out-error-bit c = search needs

@@ -2,12 +2,6 @@ use mathlib.Core.List.{[], _∷_}
 use borrow.Author.Needs.{needs}
 use Rattle.host.proofs.engine_words.store.Statement.{statement}
 use Rattle.host.proofs.engine_words.store.Tie as tie
-use Rattle.host.proofs.engine_words.store.Reads as reads
-use Rattle.host.proofs.engine_words.store.Lts as lts
-use Rattle.host.proofs.engine_words.error_bit_number.Reads as error-bit-number-reads
-use Rattle.host.proofs.engine_words.moving.Reads as moving-reads
-use Rattle.host.proofs.engine_words.phase_number.Reads as phase-number-reads
-use Rattle.host.proofs.engine_words.truth.Reads as truth-reads
 
 moving-requires : tie.Need-moving-requires
 moving-requires c κs = search needs
@@ -21,8 +15,8 @@ truth-requires-2 c κs = search needs
 truth-requires-3 : tie.Need-truth-requires-3
 truth-requires-3 c κs = search needs
 
-error-bit-number-requires : tie.Need-error-bit-number-requires
-error-bit-number-requires c κs = search needs
+bit-number-requires : tie.Need-bit-number-requires
+bit-number-requires c κs = search needs
 
 truth-requires-4 : tie.Need-truth-requires-4
 truth-requires-4 c κs = search needs
@@ -40,7 +34,7 @@ returns c =
     λ i.
     s .settings .width ∷ s .settings .beats
     ∷ c .before .before .before .before .before .before .before .truth .ensures i ∷ c .before .before .before .before .before .before .truth2 .ensures i ∷ c .before .before .before .before .before .truth3 .ensures i
-    ∷ c .before .before .before .before .error-bit-number .ensures i ∷ c .before .before .before .truth4 .ensures i ∷ c .before .before .truth5 .ensures i
+    ∷ c .before .before .before .before .bit-number .ensures i ∷ c .before .before .before .truth4 .ensures i ∷ c .before .before .truth5 .ensures i
     ∷ s .chain .current ∷ s .chain .tail ∷ s .chain .next ∷ s .chain .held
     ∷ s .simple .source ∷ s .simple .destination ∷ s .simple .count
     ∷ c .before .phase-number .ensures i ∷ t i .source ∷ t i .destination ∷ t i .total ∷ t i .moved
@@ -54,7 +48,7 @@ store-spec =
     truth-requires
     truth-requires-2
     truth-requires-3
-    error-bit-number-requires
+    bit-number-requires
     truth-requires-4
     truth-requires-5
     phase-number-requires

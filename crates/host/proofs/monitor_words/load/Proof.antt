@@ -4,11 +4,6 @@ use mathlib.Core.Path.{ap, _∙_}
 use borrow.Author.Needs.{needs}
 use Rattle.host.proofs.monitor_words.load.Statement.{statement}
 use Rattle.host.proofs.monitor_words.load.Tie as tie
-use Rattle.host.proofs.monitor_words.load.Reads as reads
-use Rattle.host.proofs.monitor_words.load.Lts as lts
-use Rattle.host.proofs.monitor_words.clock.Reads as clock-reads
-use Rattle.host.proofs.monitor_words.fields.Reads as fields-reads
-use Rattle.host.proofs.monitor_words.joined.Reads as joined-reads
 
 fields-requires : tie.Need-fields-requires
 fields-requires c κs = search needs

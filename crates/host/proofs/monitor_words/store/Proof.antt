@@ -2,11 +2,6 @@ use mathlib.Core.List.{[], _∷_}
 use borrow.Author.Needs.{needs}
 use Rattle.host.proofs.monitor_words.store.Statement.{statement}
 use Rattle.host.proofs.monitor_words.store.Tie as tie
-use Rattle.host.proofs.monitor_words.store.Reads as reads
-use Rattle.host.proofs.monitor_words.store.Lts as lts
-use Rattle.host.proofs.monitor_words.bits.Reads as bits-reads
-use Rattle.host.proofs.monitor_words.high.Reads as high-reads
-use Rattle.host.proofs.monitor_words.low.Reads as low-reads
 
 low-requires : tie.Need-low-requires
 low-requires c κs = search needs

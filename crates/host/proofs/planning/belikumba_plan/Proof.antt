@@ -1,13 +1,8 @@
-use Rattle.plan.specs.Plan.{Plan}
 use Prim.Native.Nat.{ℕ}
 use mathlib.Core.Path.{ap, _∙_}
 use borrow.Author.Needs.{needs}
 use Rattle.host.proofs.planning.belikumba_plan.Statement.{statement}
 use Rattle.host.proofs.planning.belikumba_plan.Tie as tie
-use Rattle.host.proofs.planning.belikumba_plan.Reads as reads
-use Rattle.host.proofs.planning.belikumba_plan.Lts as lts
-use Rattle.kit.proofs.answer.number.Reads as number-reads
-use Rattle.plan.proofs.plan_bytes.Reads as plan-bytes-reads
 
 plan-bytes-requires : tie.Need-plan-bytes-requires
 plan-bytes-requires c κs = search needs

@@ -1,22 +1,11 @@
 use borrow.Author.Tests.{not-true, not-false}
 use Rattle.host.proofs.Kept.{line-settings, line-state, line-high}
-use Rattle.host.specs.EngineWords.{truth}
-use mathlib.Core.Bool.{Bool}
 use Rattle.host.specs.Calls.{lineOf}
-use Rattle.kit.proofs.Choice.{yes, no}
-use Rattle.engine.specs.Read.{gives}
 use Rattle.engine.specs.declared.state.Engine.{Engine}
-use Prim.Native.Nat.{ℕ}
-use mathlib.Core.Path.{refl, sym, ap, _∙_}
+use mathlib.Core.Path.{sym, ap, _∙_}
 use borrow.Author.Needs.{needs}
 use Rattle.host.proofs.registers.belikumba_interrupt_line.Statement.{statement}
 use Rattle.host.proofs.registers.belikumba_interrupt_line.Tie as tie
-use Rattle.host.proofs.registers.belikumba_interrupt_line.Reads as reads
-use Rattle.host.proofs.registers.belikumba_interrupt_line.Lts as lts
-use Rattle.engine.proofs.state.interrupt_line.Reads as interrupt-line-reads
-use Rattle.engine.proofs.state.well_formed.Reads as well-formed-reads
-use Rattle.host.proofs.engine_words.load.Reads as load-reads
-use Rattle.kit.proofs.settings.legal.Reads as legal-reads
 
 load-requires : tie.Need-load-requires
 load-requires c κs = search needs

@@ -5,11 +5,6 @@ use mathlib.Core.Path.{ap, _∙_}
 use borrow.Author.Needs.{needs}
 use Rattle.host.proofs.registers.belikumba_read.Statement.{statement}
 use Rattle.host.proofs.registers.belikumba_read.Tie as tie
-use Rattle.host.proofs.registers.belikumba_read.Reads as reads
-use Rattle.host.proofs.registers.belikumba_read.Lts as lts
-use Rattle.engine.proofs.read.read.Reads as read-reads
-use Rattle.host.proofs.engine_words.load.Reads as load-reads
-use Rattle.kit.proofs.answer.number.Reads as number-reads
 
 load-requires : tie.Need-load-requires
 load-requires c κs = search needs

@@ -6,12 +6,6 @@ use mathlib.Core.Path.{ap, _∙_}
 use borrow.Author.Needs.{needs}
 use Rattle.host.proofs.registers.belikumba_write.Statement.{statement}
 use Rattle.host.proofs.registers.belikumba_write.Tie as tie
-use Rattle.host.proofs.registers.belikumba_write.Reads as reads
-use Rattle.host.proofs.registers.belikumba_write.Lts as lts
-use Rattle.engine.proofs.write.write.Reads as write-reads
-use Rattle.host.proofs.engine_words.load.Reads as load-reads
-use Rattle.host.proofs.engine_words.store.Reads as store-reads
-use Rattle.kit.proofs.answer.number.Reads as number-reads
 
 load-requires : tie.Need-load-requires
 load-requires c κs = search needs

@@ -6,12 +6,6 @@ use mathlib.Core.Path.{ap, _∙_}
 use borrow.Author.Needs.{needs}
 use Rattle.host.proofs.stepping.belikumba_run.Statement.{statement}
 use Rattle.host.proofs.stepping.belikumba_run.Tie as tie
-use Rattle.host.proofs.stepping.belikumba_run.Reads as reads
-use Rattle.host.proofs.stepping.belikumba_run.Lts as lts
-use Rattle.host.proofs.engine_words.load.Reads as load-reads
-use Rattle.host.proofs.engine_words.store.Reads as store-reads
-use Rattle.kit.proofs.answer.number.Reads as number-reads
-use Rattle.steps.proofs.run.run.Reads as run-reads
 
 load-requires : tie.Need-load-requires
 load-requires c κs = search needs

@@ -3,9 +3,6 @@ use mathlib.Core.Path.{sym, ap, _∙_}
 use borrow.Author.Needs.{needs}
 use Rattle.host.proofs.stepping.told.Statement.{statement}
 use Rattle.host.proofs.stepping.told.Tie as tie
-use Rattle.host.proofs.stepping.told.Reads as reads
-use Rattle.host.proofs.stepping.told.Lts as lts
-use Rattle.host.proofs.stepping.of.Reads as of-reads
 
 enum-told : tie.Need-enum-told
 enum-told c = search needs

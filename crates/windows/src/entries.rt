@@ -1,0 +1,56 @@
+// One step and a run of steps over lent windows: any state, any memory, any windows.
+use crate::table::Table;
+use crate::table::table_of;
+use engine::state::Engine;
+use memory::window::Window;
+use steps::run::Ran;
+use steps::run::Stepped;
+ghost use mathlib.Core.Path.{_≡_};
+ghost use mathlib.Core.List.{[], _∷_};
+ghost use Rattle.steps.specs.Run.{stepOf, stepSeen, runOf, runSeen};
+ghost use Rattle.windows.specs.Flat.{flatOf};
+ghost use Rattle.windows.specs.Table.{written, Has};
+
+// The windows are copied once, as numbers, so that the step and its proof stay those of `steps`.
+pub fn step(engine: Engine, memory: &mut [u8], windows: &[Window]) -> Stepped
+    ensures { λ r. ⌜ stepSeen r (now (memory .exit)) ≡ stepOf engine (now (memory .entry)) (flatOf (now (windows .entry))) ⌝ }
+{
+    let table = table_of(windows);
+    step_table(engine, memory, table)
+}
+
+// A run of up to `most` steps.
+pub fn run(engine: Engine, memory: &mut [u8], windows: &[Window], most: u16) -> Ran
+    ensures { λ r. ⌜ runSeen r (now (memory .exit)) ≡ runOf most engine (now (memory .entry)) (flatOf (now (windows .entry))) ⌝ }
+{
+    let table = table_of(windows);
+    run_table(engine, memory, table, most)
+}
+
+// A step with one sick window. Its parameters are plain, so that whoever calls it needs no walk by hand.
+pub fn step_with_one(engine: Engine, memory: &mut [u8], start: u32, length: u32) -> Stepped
+    ensures { λ r. ⌜ stepSeen r (now (memory .exit)) ≡ stepOf engine (now (memory .entry)) (start ∷ length ∷ []) ⌝ }
+{
+    let windows = [Window { start, length }];
+    step(engine, memory, &windows)
+}
+
+// The numbers in use are lent to the step itself.
+fn step_table(engine: Engine, memory: &mut [u8], table: Table) -> Stepped
+    requires { ⌜ Has table (written table) ⌝ }
+    ensures { λ r. ⌜ stepSeen r (now (memory .exit)) ≡ stepOf engine (now (memory .entry)) (written table) ⌝ }
+{
+    let flat = table.flat;
+    let count = table.count;
+    steps::run::step(engine, memory, &flat[..count])
+}
+
+// Likewise, to the run.
+fn run_table(engine: Engine, memory: &mut [u8], table: Table, most: u16) -> Ran
+    requires { ⌜ Has table (written table) ⌝ }
+    ensures { λ r. ⌜ runSeen r (now (memory .exit)) ≡ runOf most engine (now (memory .entry)) (written table) ⌝ }
+{
+    let flat = table.flat;
+    let count = table.count;
+    steps::run::run(engine, memory, &flat[..count], most)
+}

@@ -6,8 +6,8 @@ use Rattle.plan.specs.Plan.{measureOf}
 use Rattle.memory.specs.Windows.{sick}
 use Rattle.memory.specs.Verdict.{groupOf}
 use Rattle.engine.specs.State.{wellFormedOf}
-use Rattle.engine.specs.Read.{registerOf}
-use Rattle.engine.specs.Write.{registerWrittenOf}
+use Rattle.registers.specs.Read.{registerOf}
+use Rattle.registers.specs.Write.{registerWrittenOf}
 use Rattle.steps.specs.Step.{takeOf, advanceOf}
 use Rattle.steps.specs.Run.{refusalOf, walkFrom, runOf}
 use Rattle.monitor.specs.Flags.{flagOf, raise, validTable, heldTable, validFlags, heldFlags}

@@ -8,8 +8,8 @@ use Rattle.kit.specs.Word.{bytesOf}
 use Rattle.plan.specs.Plan.{Plan, planOf}
 use Rattle.engine.specs.declared.state.Engine.{Engine}
 use Rattle.engine.specs.State.{freshOf}
-use Rattle.engine.specs.Read.{readOf, gives}
-use Rattle.engine.specs.Write.{writeOf}
+use Rattle.registers.specs.Read.{readOf, gives}
+use Rattle.registers.specs.Write.{writeOf}
 use Rattle.steps.specs.Run.{Run, runOf}
 use Rattle.monitor.specs.Cases.{onBus, shown}
 

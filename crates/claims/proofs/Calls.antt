@@ -13,7 +13,7 @@ use Rattle.engine.specs.declared.state.Settings.{Settings}
 use Rattle.engine.specs.declared.state.Simple.{Simple}
 use Rattle.engine.specs.declared.state.Engine.{Engine}
 use Rattle.engine.specs.State.{busyOf}
-use Rattle.engine.proofs.Writes.{write-keeps-settings, write-keeps-words, write-keeps-well-formed}
+use Rattle.registers.proofs.Writes.{write-keeps-settings, write-keeps-words, write-keeps-well-formed}
 use Rattle.steps.specs.Step.{Next, advanceOf}
 use Rattle.steps.specs.Run.{Walk, begun, ended, walkFrom, refusalOf}
 use Rattle.steps.proofs.Kept.{advance-simple, advance-settings, advance-well-formed}

@@ -22,7 +22,8 @@ use Rattle.engine.specs.declared.state.Outcome.the-variants.{Internal}
 use Rattle.engine.specs.declared.state.Phase.{Phase}
 use Rattle.engine.specs.declared.state.Phase.the-variants.{Idle, Fetch, Move, Update}
 use Rattle.engine.specs.State.{phaseFits, wellFormedOf}
-use Rattle.engine.specs.Write.{bit, writeOf}
+use Rattle.engine.specs.Bits.{bit}
+use Rattle.registers.specs.Write.{writeOf}
 use Rattle.engine.proofs.WellFormed.{well-formed}
 use Rattle.steps.specs.declared.event.Event.{Event}
 use Rattle.steps.specs.declared.event.Event.the-variants.{Fetch as Fetched}

@@ -13,8 +13,9 @@ use Rattle.engine.specs.declared.state.Engine.{Engine}
 use Rattle.engine.specs.declared.state.Phase.{Phase}
 use Rattle.engine.specs.declared.state.Phase.the-variants.{Idle, Fetch, Move, Update}
 use Rattle.engine.specs.State.{busyOf, errorSetOf, wellFormedOf, withControl}
-use Rattle.engine.specs.Read.{upperHalves}
-use Rattle.engine.specs.Write.{Wrote, done, bit, differ, guardOf, writeControlOf, writeStatusOf, writeTailOf, countWritten, writeCountOf, registerWrittenOf, writeOf}
+use Rattle.registers.specs.Read.{upperHalves}
+use Rattle.engine.specs.Bits.{bit}
+use Rattle.registers.specs.Write.{Wrote, done, differ, guardOf, writeControlOf, writeStatusOf, writeTailOf, countWritten, writeCountOf, registerWrittenOf, writeOf}
 use Rattle.claims.specs.Transfers.{write, resets, inTransfer}
 
 -- what a transfer rests on, but for its phase, is the same in x as in s

@@ -21,7 +21,8 @@ use Rattle.engine.specs.declared.state.Outcome.{Outcome}
 use Rattle.engine.specs.declared.state.Phase.{Phase}
 use Rattle.engine.specs.declared.state.Phase.the-variants.{Idle, Fetch, Move, Update}
 use Rattle.engine.specs.State.{errorSetOf, wellFormedOf}
-use Rattle.engine.specs.Write.{bit, writeOf}
+use Rattle.engine.specs.Bits.{bit}
+use Rattle.registers.specs.Write.{writeOf}
 use Rattle.steps.specs.declared.event.Event.{Event}
 use Rattle.steps.specs.declared.event.Event.the-variants.{None, Fetch as Fetched, Move as Moved, Fault, Update as Updated, Halt}
 use Rattle.steps.specs.Step.{advanceOf}

@@ -1,3 +1,1 @@
-pub mod Registers
 pub mod WellFormed
-pub mod Writes

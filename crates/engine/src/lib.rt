@@ -1,4 +1,2 @@
-// Document 01, "Registers": the engine's state, what makes it well formed, and its registers.
-pub mod read;
+// The engine's state, what makes it well formed, and its interrupt line.
 pub mod state;
-pub mod write;

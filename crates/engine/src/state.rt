@@ -4,7 +4,7 @@ use kit::limits::MOST_BYTES;
 use kit::logic::both;
 use kit::logic::either;
 ghost use mathlib.Core.Path.{_≡_};
-ghost use Rattle.engine.specs.Read.{errorBitOf};
+ghost use Rattle.engine.specs.Bits.{errorBitOf};
 ghost use Rattle.engine.specs.State.{freshOf, busyOf, errorSetOf, aligned, transferFits, phaseFits, wellFormedOf, interruptLineOf};
 
 // Width in bytes and beats of a burst.

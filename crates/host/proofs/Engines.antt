@@ -15,7 +15,7 @@ use Rattle.engine.specs.declared.state.Outcome.the-variants.{Complete, Internal
 use Rattle.engine.specs.declared.state.Phase.{Phase}
 use Rattle.engine.specs.declared.state.Phase.the-variants.{Idle, Fetch, Move, Update}
 use Rattle.engine.specs.State.{freshOf, wellFormedOf}
-use Rattle.engine.specs.Read.{errorBitOf}
+use Rattle.engine.specs.Bits.{errorBitOf}
 use Rattle.host.specs.EngineWords.{truth, phaseNumberOf, movingOf, wordsOf, errorBitFrom, phaseFrom, settingsFrom, engineFrom, sameWords, lostOf, engineOf}
 use Rattle.host.proofs.Same.{same-equal, same-itself}
 

@@ -10,17 +10,17 @@ use Rattle.kit.specs.Answer.{numberOf}
 use Rattle.kit.specs.Settings.{legalSettings}
 use Rattle.kit.proofs.Choice.{yes, no}
 use Rattle.engine.specs.declared.state.Engine.{Engine}
-use Rattle.engine.specs.declared.read.Reading.{Reading}
-use Rattle.engine.specs.declared.write.Written.{Written}
+use Rattle.registers.specs.declared.read.Reading.{Reading}
+use Rattle.registers.specs.declared.write.Written.{Written}
 use Rattle.engine.specs.State.{wellFormedOf, interruptLineOf}
-use Rattle.engine.specs.Read.{Value, gives, noValue, readSeen}
-use Rattle.engine.specs.Write.{Wrote, writeSeen}
+use Rattle.registers.specs.Read.{Value, gives, noValue, readSeen}
+use Rattle.registers.specs.Write.{Wrote, writeSeen}
 use Rattle.steps.specs.declared.run.Stepped.{Stepped}
 use Rattle.steps.specs.declared.run.Ran.{Ran}
 use Rattle.steps.specs.Run.{Step, stepSeen, Run, runSeen}
 use Rattle.plan.specs.Plan.{Plan}
 use Rattle.host.specs.declared.planning.PlannedForC.{PlannedForC}
-use Rattle.host.specs.declared.registers.ValueForC.{ValueForC}
+use Rattle.host.specs.declared.accesses.ValueForC.{ValueForC}
 use Rattle.host.specs.declared.stepping.SteppedForC.{SteppedForC}
 use Rattle.host.specs.declared.stepping.RanForC.{RanForC}
 use Rattle.host.specs.Planning.{plannedSeen}

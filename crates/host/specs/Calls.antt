@@ -6,12 +6,12 @@ use Rattle.kit.specs.Choice.{when}
 use Rattle.kit.specs.Settings.{legalSettings}
 use Rattle.engine.specs.declared.state.Engine.{Engine}
 use Rattle.engine.specs.State.{wellFormedOf, interruptLineOf}
-use Rattle.engine.specs.Read.{Value, gives, noValue, readOf}
-use Rattle.engine.specs.Write.{Wrote, writeOf}
+use Rattle.registers.specs.Read.{Value, gives, noValue, readOf}
+use Rattle.registers.specs.Write.{Wrote, writeOf}
 use Rattle.steps.specs.declared.event.Event.{Event}
 use Rattle.steps.specs.declared.event.Event.the-variants.{None, Fetch, Move, Fault, Update, Halt}
 use Rattle.steps.specs.Run.{Step, stepOf, Run, runOf}
-use Rattle.host.specs.declared.registers.ValueForC.{ValueForC}
+use Rattle.host.specs.declared.accesses.ValueForC.{ValueForC}
 use Rattle.host.specs.declared.stepping.SteppedForC.{SteppedForC}
 use Rattle.host.specs.declared.stepping.RanForC.{RanForC}
 use Rattle.host.specs.EngineWords.{truth, wordsOf, engineOf}

@@ -19,7 +19,7 @@ use Rattle.engine.specs.declared.state.Outcome.the-variants.{Complete, Internal
 use Rattle.engine.specs.declared.state.Phase.{Phase}
 use Rattle.engine.specs.declared.state.Phase.the-variants.{Idle, Fetch, Move, Update}
 use Rattle.engine.specs.State.{freshOf, withChain}
-use Rattle.engine.specs.Read.{errorBitOf}
+use Rattle.engine.specs.Bits.{errorBitOf}
 
 abbrev pub truth : Bool → ℕ
 truth true = 1

@@ -1,7 +1,7 @@
 -- What a step keeps: the settings, the memory's length and bytes, and the state's being well formed.
 use mathlib.Core.Path.{_≡_, refl, sym, ap, subst, _∙_}
 use Prim.Native.Nat.{ℕ, _+_, _-_, _/_, _%_, _^_, _≤_, _<_}
-use mathlib.Core.Bool.{Bool, true}
+use mathlib.Core.Bool.{Bool, true, false}
 use mathlib.Core.List.{List}
 use native.Mathlib.Nat.{mul-mod-left}
 use native.Mathlib.Omega.{arith}
@@ -22,6 +22,7 @@ use Rattle.memory.proofs.Groups.{group-okay-fits}
 use Rattle.memory.proofs.Verdicts.{worse-okay}
 use Rattle.engine.specs.declared.state.Settings.{Settings}
 use Rattle.engine.specs.declared.state.Simple.{Simple}
+use Rattle.engine.specs.declared.state.Status.{Status}
 use Rattle.engine.specs.declared.state.Engine.{Engine}
 use Rattle.engine.specs.declared.state.Transfer.{Transfer}
 use Rattle.engine.specs.declared.state.ErrorBit.{ErrorBit}
@@ -30,8 +31,8 @@ use Rattle.engine.specs.declared.state.Outcome.{Outcome}
 use Rattle.engine.specs.declared.state.Outcome.the-variants.{Complete, Internal, Slave, Decode}
 use Rattle.engine.specs.declared.state.Phase.{Phase}
 use Rattle.engine.specs.declared.state.Phase.the-variants.{Idle, Fetch, Move, Update}
-use Rattle.engine.specs.State.{busyOf, errorSetOf, phaseFits, transferFits, wellFormedOf, withPhase}
-use Rattle.engine.specs.Write.{bit}
+use Rattle.engine.specs.State.{busyOf, errorSetOf, phaseFits, transferFits, wellFormedOf, withStatus, withPhase}
+use Rattle.engine.specs.Bits.{bit}
 use Rattle.engine.proofs.WellFormed.{transfer-fits, transfer-fits-test, WellFormed, well-formed, well-formed-test}
 use Rattle.steps.specs.declared.event.Advanced.{Advanced}
 use Rattle.steps.specs.Step.{haltedOf, describedOf, takeOf, fetchBy, endedOf, stopOf, moveBy, moveOf, completedOf, settledOf, updateBy, statusWordOf, advanceBy, advanceOf}
@@ -48,28 +49,25 @@ word-fits m bytes at = omega (arith, bytes at, bytes (at + 1), bytes (at + 2), b
 no-error : (s : Engine) → WellFormed s → busyOf (s .phase) ≡ true → errorSetOf (s .status .bit) ≡ true → ⊥
 no-error s h busy e = never (sym (h .error-idle e) ∙ busy)
 
-halted-well : (s : Engine) (b : ErrorBit) → WellFormed s → WellFormed (haltedOf s b)
-halted-well s b h = record {
+-- a state of the same pointers and registers whose status and phase go together
+pair-well : (s : Engine) (status : Status) (p : Phase) → WellFormed s → (errorSetOf (status .bit) ≡ true → busyOf p ≡ false)
+    → phaseFits p (s .control .chain) ≡ true → WellFormed (withPhase (withStatus s status) p)
+pair-well s status p h idle fits = record {
   current-aligned = h .current-aligned;
   tail-aligned = h .tail-aligned;
   next-aligned = h .next-aligned;
   held-aligned = h .held-aligned;
   count-small = h .count-small;
-  error-idle = λ _. refl;
-  phase-fits = refl;
+  error-idle = idle;
+  phase-fits = fits;
 }
+
+halted-well : (s : Engine) (b : ErrorBit) → WellFormed s → WellFormed (haltedOf s b)
+halted-well s b h = pair-well s (record { bit = b; complete = s .status .complete; error = true }) Idle h (λ _. refl) refl
 
 -- a busy state that goes on to a phase that fits
 phase-well : (s : Engine) (p : Phase) → WellFormed s → busyOf (s .phase) ≡ true → phaseFits p (s .control .chain) ≡ true → WellFormed (withPhase s p)
-phase-well s p h busy fits = record {
-  current-aligned = h .current-aligned;
-  tail-aligned = h .tail-aligned;
-  next-aligned = h .next-aligned;
-  held-aligned = h .held-aligned;
-  count-small = h .count-small;
-  error-idle = λ e. absurd (no-error s h busy e);
-  phase-fits = fits;
-}
+phase-well s p h busy fits = pair-well s (s .status) p h (λ e. absurd (no-error s h busy e)) fits
 
 described-fits : (source destination total : ℕ) (chain : Bool) → chain ≡ true → source < addressEnd → destination < addressEnd → total ≤ mostBytes
     → phaseFits (describedOf source destination total) chain ≡ true
@@ -102,16 +100,9 @@ module _ (s : Engine) (m : List ℕ) (windows : List Window) (legals : legalSett
   fetch-well e DecodeError = halted-well s SgDecode h
 
   ended-well : busyOf (s .phase) ≡ true → WellFormed (endedOf s)
-  ended-well busy = cases WellFormed (s .control .chain) (λ e. phase-well s (Update Complete) h busy e)
-      (λ _. record {
-        current-aligned = h .current-aligned;
-        tail-aligned = h .tail-aligned;
-        next-aligned = h .next-aligned;
-        held-aligned = h .held-aligned;
-        count-small = h .count-small;
-        error-idle = λ _. refl;
-        phase-fits = refl;
-      })
+  ended-well busy =
+      cases WellFormed (s .control .chain) (λ e. phase-well s (Update Complete) h busy e)
+      (λ _. pair-well s (record { bit = s .status .bit; complete = true; error = s .status .error }) Idle h (λ _. refl) refl)
 
   faulted-well : busyOf (s .phase) ≡ true → (o : Outcome) (b : ErrorBit) → WellFormed (when (s .control .chain) (withPhase s (Update o)) (haltedOf s b))
   faulted-well busy o b = cases WellFormed (s .control .chain) (λ e. phase-well s (Update o) h busy e) (λ _. halted-well s b h)

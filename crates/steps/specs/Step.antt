@@ -23,8 +23,8 @@ use Rattle.engine.specs.declared.state.Outcome.the-variants.{Complete, Internal
 use Rattle.engine.specs.declared.state.Phase.{Phase}
 use Rattle.engine.specs.declared.state.Phase.the-variants.{Idle, Fetch, Move, Update}
 use Rattle.engine.specs.State.{withStatus, withChain, withPhase}
-use Rattle.engine.specs.Read.{errorBitOf}
-use Rattle.engine.specs.Write.{bit, pointer}
+use Rattle.engine.specs.Bits.{errorBitOf}
+use Rattle.engine.specs.Bits.{bit, pointer}
 use Rattle.steps.specs.declared.event.Event.{Event}
 use Rattle.steps.specs.declared.event.Event.the-variants.{None, Fetch as Fetched, Move as Moved, Fault, Update as Updated, Halt}
 use Rattle.steps.specs.declared.event.Advanced.{Advanced}

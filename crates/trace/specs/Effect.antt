@@ -9,8 +9,8 @@ use Rattle.kit.specs.Limits.{mostWindows}
 use Rattle.kit.specs.Settings.{legalSettings}
 use Rattle.engine.specs.declared.state.Engine.{Engine}
 use Rattle.engine.specs.State.{freshOf}
-use Rattle.engine.specs.Write as registers-written
-use Rattle.engine.specs.Read as registers-read
+use Rattle.registers.specs.Write as registers-written
+use Rattle.registers.specs.Read as registers-read
 use Rattle.monitor.specs.declared.clock.Clock.{Clock}
 use Rattle.monitor.specs.Monitor as bus
 use Rattle.listing.specs.declared.word.Word.the-variants.{Set, Memory, Window, Write, Read, NoRead, Bus, Bad}

@@ -8,7 +8,7 @@ use Rattle.kit.specs.Choice.{when}
 use Rattle.kit.specs.Limits.{mostWindows}
 use Rattle.engine.specs.declared.state.Engine.{Engine}
 use Rattle.engine.specs.State.{busyOf}
-use Rattle.engine.specs.Read.{bitIf}
+use Rattle.registers.specs.Read.{bitIf}
 use Rattle.steps.specs.declared.event.Event.{Event}
 use Rattle.steps.specs.declared.event.Event.the-variants.{None, Fetch, Move, Fault, Update, Halt}
 use Rattle.steps.specs.Run as runs

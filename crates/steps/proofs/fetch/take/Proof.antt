@@ -6,7 +6,7 @@ use Rattle.engine.specs.declared.state.Phase.{Phase}
 use Rattle.engine.specs.State.{withChain, withPhase}
 use Rattle.steps.specs.declared.event.Event.the-variants.{Fetch}
 use Rattle.steps.specs.declared.event.Advanced.{Advanced}
-use Rattle.engine.specs.Write.{pointer}
+use Rattle.engine.specs.Bits.{pointer}
 use Rattle.steps.specs.Step.{takeOf}
 use Rattle.steps.proofs.fetch.take.Statement.{statement}
 use Rattle.steps.proofs.fetch.take.Tie as tie

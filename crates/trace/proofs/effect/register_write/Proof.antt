@@ -1,7 +1,7 @@
 use mathlib.Core.Path.{ap, _∙_}
 use Prim.Native.Nat.{ℕ}
 use borrow.Author.Needs.{needs}
-use Rattle.engine.specs.Write.{Wrote}
+use Rattle.registers.specs.Write.{Wrote}
 use Rattle.trace.specs.Effect.{withEngine}
 use Rattle.listing.specs.declared.word.Word.the-variants as words
 use Rattle.trace.specs.declared.session.Effect.{Effect}

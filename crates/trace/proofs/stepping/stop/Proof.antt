@@ -4,7 +4,7 @@ use mathlib.Core.Bool.{Bool, true, false, not}
 use Prim.Native.Nat.{ℕ}
 use mathlib.Core.Path.{_≡_, refl}
 use mir.Val.{boolByte}
-use Rattle.engine.specs.Read.{bitIf}
+use Rattle.registers.specs.Read.{bitIf}
 use Rattle.trace.specs.declared.session.Mode.the-variants.{Records}
 use Rattle.trace.specs.Effect.{withMode}
 use Rattle.listing.specs.declared.word.Word.the-variants as words

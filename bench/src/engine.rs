@@ -2,52 +2,12 @@
 // rows that say so, beside the faster one of engine_by_hand.rs.
 
 use crate::engine_by_hand::{run_by_hand, step_by_hand};
+use crate::interface as library;
+use crate::interface::ENGINE_WORDS;
 use crate::race::{print_heading, print_row, race};
 use independent::engine::{Engine, Event, Phase};
 use independent::memory::Window;
 use std::hint::black_box;
-
-#[repr(C)]
-struct Value {
-    answer: u32,
-    value: u32,
-}
-
-#[repr(C)]
-struct Stepped {
-    answer: u32,
-    event: u32,
-    first: u32,
-    second: u32,
-}
-
-#[repr(C)]
-struct Ran {
-    answer: u32,
-    steps: u32,
-}
-
-mod library {
-    extern "C" {
-        pub fn belikumba_read(engine: *const u32, offset: u32) -> super::Value;
-        pub fn belikumba_write(engine: *mut u32, offset: u32, value: u32) -> u32;
-        pub fn belikumba_step(
-            engine: *mut u32,
-            memory: *mut u8,
-            memory_bytes: usize,
-            windows: *const u32,
-            window_numbers: usize,
-        ) -> super::Stepped;
-        pub fn belikumba_run(
-            engine: *mut u32,
-            memory: *mut u8,
-            memory_bytes: usize,
-            windows: *const u32,
-            window_numbers: usize,
-            most: u16,
-        ) -> super::Ran;
-    }
-}
 
 // Offsets of the registers.
 const CDMACR: u32 = 0x00;
@@ -97,7 +57,6 @@ type Side = fn(&Job, &mut Lent) -> Done;
 
 // ---- Proved
 
-const ENGINE_WORDS: usize = 20;
 const PHASE_WORD: usize = 15;
 const IDLE: u32 = 0;
 

@@ -3,6 +3,10 @@
 
 mod engine;
 mod engine_by_hand;
+// The header in Rust, as the test of the C library has it; the bench calls a part of it.
+#[allow(dead_code)]
+#[path = "../../tests/host/src/interface.rs"]
+mod interface;
 mod monitor;
 mod plan;
 mod race;

@@ -1,52 +1,16 @@
 // The monitor: `belikumba_bus_clock` of the C library beside the independent program's monitor.
 
+use crate::interface::{belikumba_bus_clock, Clock, Clocked, MONITOR_WORDS};
 use crate::race::{print_heading, print_row, race};
 use independent::monitor::Monitor;
 use std::hint::black_box;
 
-#[repr(C)]
-#[derive(Clone, Copy, Default)]
-struct Clock {
-    bits: u32,
-    address: u32,
-    length: u32,
-    size: u32,
-    burst: u32,
-    cache: u32,
-    prot: u32,
-    qos: u32,
-    region: u32,
-    id: u32,
-}
-
-/// The answer, and of the flags that are up how many and the lowest.
-#[repr(C)]
-#[derive(Debug, PartialEq)]
-struct Clocked {
-    answer: u32,
-    count: u32,
-    lowest: u32,
-}
-
-mod library {
-    extern "C" {
-        pub fn belikumba_bus_clock(
-            monitor: *mut u32,
-            width: u32,
-            beats: u32,
-            clock: super::Clock,
-        ) -> super::Clocked;
-    }
-}
-
 const WIDTH: u32 = 4;
 const BEATS: u32 = 16;
 
-const MONITOR_WORDS: usize = 14;
-
 fn proved(monitor: &mut [u32; MONITOR_WORDS], clock: &Clock) -> Clocked {
     // SAFETY: include/belikumba.h: it reaches the 14 words alone, whatever the numbers are.
-    unsafe { library::belikumba_bus_clock(monitor.as_mut_ptr(), WIDTH, BEATS, *clock) }
+    unsafe { belikumba_bus_clock(monitor.as_mut_ptr(), WIDTH, BEATS, *clock) }
 }
 
 fn plain(monitor: &mut Monitor, clock: &independent::monitor::Clock) -> Clocked {

@@ -1,36 +1,15 @@
 // The cutter: `belikumba_plan` of the C library beside two cutters in plain Rust: the independent program's, and one
 // written for this bench alone. Both work out the number of bursts by a formula; the proved one walks to count.
 
+use crate::interface::{belikumba_plan, Planned};
 use crate::race::{print_heading, print_row, race};
 use std::hint::black_box;
-
-#[repr(C)]
-#[derive(Debug, PartialEq)]
-struct Planned {
-    answer: u32,
-    bursts: u32,
-}
-
-mod library {
-    extern "C" {
-        pub fn belikumba_plan(
-            width: u32,
-            beats: u32,
-            start: u32,
-            count: u32,
-            places: *mut u8,
-            length: usize,
-        ) -> super::Planned;
-    }
-}
 
 type Planner = fn(u32, u32, u32, u32, &mut [u8]) -> Planned;
 
 fn proved(width: u32, beats: u32, start: u32, count: u32, places: &mut [u8]) -> Planned {
     // SAFETY: include/belikumba.h: it writes to the `length` lent bytes alone, whatever the numbers are.
-    unsafe {
-        library::belikumba_plan(width, beats, start, count, places.as_mut_ptr(), places.len())
-    }
+    unsafe { belikumba_plan(width, beats, start, count, places.as_mut_ptr(), places.len()) }
 }
 
 const PAGE: u64 = 4096;
@@ -144,7 +123,9 @@ pub fn bench() {
                 let times = race(
                     bursts,
                     &mut places[..],
-                    |places| plan_all(black_box(proved as Planner), width, beats, &transfers, places),
+                    |places| {
+                        plan_all(black_box(proved as Planner), width, beats, &transfers, places)
+                    },
                     |places| plan_all(black_box(other), width, beats, &transfers, places),
                 );
                 print_row(&format!("{size}, width {width}, beats {beats}{name}"), &times);

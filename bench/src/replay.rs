@@ -12,7 +12,11 @@ const ROUNDS: usize = 9;
 fn run(program: &Path, trace: &Path) -> f64 {
     let input = File::open(trace).expect("the trace can be read");
     let begun = Instant::now();
-    Command::new(program).stdin(input).stdout(Stdio::null()).status().expect("the program can be run");
+    Command::new(program)
+        .stdin(input)
+        .stdout(Stdio::null())
+        .status()
+        .expect("the program can be run");
     begun.elapsed().as_secs_f64()
 }
 

@@ -17,6 +17,7 @@ mod random;
 mod record;
 mod shadow;
 mod situations;
+mod table;
 
 use std::io::Write;
 use std::path::PathBuf;

@@ -34,7 +34,7 @@ pub struct Ran {
 }
 
 #[repr(C)]
-#[derive(Clone, Copy, Debug, PartialEq, Eq)]
+#[derive(Clone, Copy, Debug, Default, PartialEq, Eq)]
 pub struct Clock {
     pub bits: u32,
     pub address: u32,

@@ -27,6 +27,8 @@ mod situations;
 mod spoil;
 mod states;
 mod surroundings;
+// The same printing of counts as in the differential test.
+#[path = "../../differential/src/table.rs"]
 mod table;
 mod vast;
 mod words;

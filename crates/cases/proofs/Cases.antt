@@ -5,7 +5,7 @@ use Rattle.cut.specs.Cut.{reach, burstEnd, cutWithin, cut}
 use Rattle.plan.specs.Plan.{measureOf}
 use Rattle.memory.specs.Windows.{sick}
 use Rattle.memory.specs.Verdict.{groupOf}
-use Rattle.engine.specs.State.{wellFormedOf}
+use Rattle.state.specs.State.{wellFormedOf}
 use Rattle.registers.specs.Read.{registerOf}
 use Rattle.registers.specs.Write.{registerWrittenOf}
 use Rattle.steps.specs.Step.{takeOf, advanceOf}

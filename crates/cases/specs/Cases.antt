@@ -6,11 +6,11 @@ use Prim.Native.Nat.{ℕ, _^_}
 use lib.ListN.{replicate}
 use Rattle.kit.specs.Word.{bytesOf}
 use Rattle.plan.specs.Plan.{Plan, planOf}
-use Rattle.engine.specs.declared.state.Engine.{Engine}
-use Rattle.engine.specs.State.{freshOf}
+use Rattle.state.specs.declared.engine.Engine.{Engine}
+use Rattle.state.specs.State.{freshOf}
 use Rattle.registers.specs.Read.{readOf, gives}
 use Rattle.registers.specs.Write.{writeOf}
-use Rattle.steps.specs.Run.{Run, runOf}
+use Rattle.steps.specs.Run.{AfterRun, runOf}
 use Rattle.monitor.specs.Cases.{onBus, shown}
 
 -- what a plan leaves: its answer, the number of bursts and the lent places
@@ -41,15 +41,15 @@ descriptor next source destination control status =
     ++ bytesOf control ++ bytesOf status
 
 -- S1: a stale descriptor at 0
-abbrev pub staleRun : Run
+abbrev pub staleRun : AfterRun
 staleRun = runOf 100 (chainAt 0) (descriptor 0 0 64 4 0x80000000) []
 
 -- S2: a descriptor at 128 in a memory of 288 bytes: 65 bytes from 192 to 0
-abbrev pub chainRun : Run
+abbrev pub chainRun : AfterRun
 chainRun = runOf 100 (chainAt 128) (replicate 128 0 ++ descriptor 128 192 0 65 0 ++ replicate 128 5) []
 
 -- S3: simple mode, 3 bytes from 0 to 1
-abbrev pub overlapRun : Run
+abbrev pub overlapRun : AfterRun
 overlapRun = runOf 100 (write (write (write fresh 0x18 0) 0x20 1) 0x28 3) (1 ∷ 2 ∷ 3 ∷ 0 ∷ []) []
 
 pub record Cases : Type 0 where

@@ -14,15 +14,15 @@ use Rattle.kit.specs.Word.{bytesOf}
 use Rattle.kit.proofs.Choice.{decide, never}
 use Rattle.memory.specs.Burst.{copied}
 use Rattle.memory.proofs.Stores.{sets-before, sets-outside, sets-inside}
-use Rattle.engine.specs.declared.state.Engine.{Engine}
-use Rattle.engine.specs.declared.state.Transfer.{Transfer}
+use Rattle.state.specs.declared.engine.Engine.{Engine}
+use Rattle.state.specs.declared.engine.Transfer.{Transfer}
 use Rattle.claims.specs.Transfers.{Apart, Outside, statusPlace, Copied}
 
 module _ (s : Engine) (t : Transfer) where
   -- the first k bytes are copied from memory m₀ to the destination, and nothing else is changed
   pub record Held (k : ℕ) (m₀ m : List ℕ) : Type 0 where
     pub apart : Apart (t .source) (t .total) (t .destination) (t .total)
-    pub misses : s .control .chain ≡ true → Apart (t .destination) (t .total) (statusPlace s) 4
+    pub misses : s .control .sgmode ≡ true → Apart (t .destination) (t .total) (statusPlace s) 4
     pub size : length m ≡ length m₀
     pub bytes : (i : ℕ) → i < k → getD m (t .destination + i) 0 ≡ getD m₀ (t .source + i) 0
     pub others : (x : ℕ) → Outside x (t .destination) k → getD m x 0 ≡ getD m₀ x 0
@@ -86,7 +86,7 @@ module _ (s : Engine) (t : Transfer) where
     }
 
   -- simple mode: the last burst ends it
-  pub whole-simple : s .control .chain ≡ false → (m₀ m : List ℕ) → Whole m₀ m → Copied s t m₀ m
+  pub whole-simple : s .control .sgmode ≡ false → (m₀ m : List ℕ) → Whole m₀ m → Copied s t m₀ m
   whole-simple simple m₀ m h =
       let size = h .held .size in
       record {
@@ -99,7 +99,7 @@ module _ (s : Engine) (t : Transfer) where
       }
 
   -- chain mode: the update writes the status word
-  module _ (chain : s .control .chain ≡ true) (m₀ m : List ℕ) (h : Whole m₀ m) (fits : statusPlace s + 4 ≤ length m) where
+  module _ (chain : s .control .sgmode ≡ true) (m₀ m : List ℕ) (h : Whole m₀ m) (fits : statusPlace s + 4 ≤ length m) where
     word : (j : ℕ) → j < 4 → getD (sets m (statusPlace s) (bytesOf 0x80000000)) (statusPlace s + j) 0 ≡ getD (bytesOf 0x80000000) j 0
     word j i = sets-inside m (statusPlace s) (bytesOf 0x80000000) j 0 i fits
 

@@ -6,13 +6,13 @@ use mathlib.Core.List.{List, [], _∷_}
 use native.Mathlib.Omega.{arith}
 use borrow.Author.Tests.{le-ltb}
 use Rattle.kit.specs.Limits.{addressEnd}
-use Rattle.kit.specs.Settings.{legalSettings}
+use Rattle.kit.specs.Settings.{legalOf}
 use Rattle.kit.proofs.Choice.{yes, no}
 use Rattle.memory.specs.declared.window.Window.{Window}
-use Rattle.engine.specs.declared.state.Settings.{Settings}
-use Rattle.engine.specs.declared.state.Simple.{Simple}
-use Rattle.engine.specs.declared.state.Engine.{Engine}
-use Rattle.engine.specs.State.{busyOf}
+use Rattle.kit.specs.declared.settings.Settings.{Settings}
+use Rattle.state.specs.declared.engine.Simple.{Simple}
+use Rattle.state.specs.declared.engine.Engine.{Engine}
+use Rattle.state.specs.State.{busyOf}
 use Rattle.registers.proofs.Writes.{write-keeps-settings, write-keeps-words, write-keeps-well-formed}
 use Rattle.steps.specs.Step.{Next, advanceOf}
 use Rattle.steps.specs.Run.{Walk, begun, ended, walkFrom, refusalOf}
@@ -29,10 +29,10 @@ accept s (step m windows ∷ more) h (bytes, small, few, p) =
     let settings = advance-settings s m windows in
     let simple = advance-simple s m windows in
     let next : Sound (act s (step m windows)) = record {
-      legal = subst (λ (x : Settings). legalSettings (x .width) (x .beats) ≡ true) (sym settings) (h .legal);
+      legal = subst (λ (x : Settings). legalOf x ≡ true) (sym settings) (h .legal);
       well = advance-well-formed s m windows (h .legal) small bytes (h .well);
-      source = subst (λ (x : Simple). x .source < addressEnd) (sym simple) (h .source);
-      destination = subst (λ (x : Simple). x .destination < addressEnd) (sym simple) (h .destination);
+      source = subst (λ (x : Simple). x .sa < addressEnd) (sym simple) (h .source);
+      destination = subst (λ (x : Simple). x .da < addressEnd) (sym simple) (h .destination);
     } in
     let (rest, end) = accept (act s (step m windows)) more next p in
     ((sym (yes _ (h .legal) (no _ (le-ltb _ _ small) (no _ (le-ltb _ _ few) (yes _ (h .well) refl)))), rest), end)
@@ -41,7 +41,7 @@ accept s (write offset value ∷ more) h (small, p) =
     let w = write-keeps-words s offset value small (record { source-word = h .source; destination-word = h .destination }) in
     accept (act s (write offset value)) more
     (record {
-      legal = subst (λ (x : Settings). legalSettings (x .width) (x .beats) ≡ true) (sym settings) (h .legal);
+      legal = subst (λ (x : Settings). legalOf x ≡ true) (sym settings) (h .legal);
       well = write-keeps-well-formed s offset value (record { source-word = h .source; destination-word = h .destination }) (h .well);
       source = w .source-word;
       destination = w .destination-word;

@@ -14,9 +14,9 @@ use Rattle.cut.specs.declared.Burst.{Burst}
 use Rattle.cut.specs.Cut.{cut}
 use Rattle.cut.specs.Legal.{AllLegal, Tiles}
 use Rattle.cut.proofs.Shortest.{well-cut}
-use Rattle.engine.specs.declared.state.Engine.{Engine}
-use Rattle.engine.specs.declared.state.Transfer.{Transfer}
-use Rattle.engine.specs.State.{errorSetOf}
+use Rattle.state.specs.declared.engine.Engine.{Engine}
+use Rattle.state.specs.declared.engine.Transfer.{Transfer}
+use Rattle.state.specs.State.{errorSetOf}
 use Rattle.claims.specs.Transfers.{Act, act, after, bursts, steps, Completes, Begin, Empty, Cover, Copied, Copy, Steps}
 use Rattle.claims.proofs.Course.{Goes, settle, course}
 use Rattle.claims.proofs.Starts.{Started, started, barren}
@@ -34,17 +34,17 @@ module _ (s : Engine) (t : Transfer) (first : Act) (rest : List Act) (c : Comple
       ∙ ap (λ (a : ℕ). cut (s .settings .width) (s .settings .beats) a (t .destination + t .total)) (add-zero (t .destination))
 
   -- a fetch and an update in chain mode
-  taken : steps (first ∷ rest) ≡ when (s .control .chain) 1 0 + (length (bursts s (first ∷ rest)) + when (s .control .chain) 1 0)
-  taken = begun .takes rest ∙ ap (λ (n : ℕ). when (s .control .chain) 1 0 + n) (whole .takes ∙ ap (λ (b : List Burst). length b + when (s .control .chain) 1 0) (sym (begun .moves rest ∙ whole .moves)))
+  taken : steps (first ∷ rest) ≡ when (s .control .sgmode) 1 0 + (length (bursts s (first ∷ rest)) + when (s .control .sgmode) 1 0)
+  taken = begun .takes rest ∙ ap (λ (n : ℕ). when (s .control .sgmode) 1 0 + n) (whole .takes ∙ ap (λ (b : List Burst). length b + when (s .control .sgmode) 1 0) (sym (begun .moves rest ∙ whole .moves)))
 
 pub begin : Begin
 begin s t first rest c = begun s t first rest c .start
 
 pub empty : Empty
-empty s o first rest well out e runs = go (decide (errorSetOf (after (act s first) rest .status .bit)))
+empty s o first rest well out e runs = go (decide (errorSetOf (after (act s first) rest .status .fault)))
   where
-    go : (errorSetOf (after (act s first) rest .status .bit) ≡ true) ⊎ (errorSetOf (after (act s first) rest .status .bit) ≡ false)
-        → errorSetOf (after (act s first) rest .status .bit) ≡ true
+    go : (errorSetOf (after (act s first) rest .status .fault) ≡ true) ⊎ (errorSetOf (after (act s first) rest .status .fault) ≡ false)
+        → errorSetOf (after (act s first) rest .status .fault) ≡ true
     go (inl error) = error
     go (inr good) =
         let b = barren s o well out first e in

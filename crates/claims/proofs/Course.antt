@@ -9,7 +9,7 @@ use lib.Seq.{sets, length-sets}
 use lib.Dec.{eqb}
 use borrow.Author.Tests.{eqb-true, eqb-false}
 use Rattle.kit.specs.Choice.{when}
-use Rattle.kit.specs.Settings.{legalSettings}
+use Rattle.kit.specs.Settings.{legalOf}
 use Rattle.kit.specs.Word.{bytesOf}
 use Rattle.kit.proofs.Choice.{cases, never}
 use Rattle.kit.proofs.Legal.{legal}
@@ -24,16 +24,16 @@ use Rattle.memory.specs.Verdict.{groupOf, worse}
 use Rattle.memory.specs.Burst.{copied}
 use Rattle.memory.proofs.Groups.{group-okay-fits}
 use Rattle.memory.proofs.Verdicts.{worse-okay}
-use Rattle.engine.specs.declared.state.Settings.{Settings}
-use Rattle.engine.specs.declared.state.Engine.{Engine}
-use Rattle.engine.specs.declared.state.Transfer.{Transfer}
-use Rattle.engine.specs.declared.state.ErrorBit.{ErrorBit}
-use Rattle.engine.specs.declared.state.ErrorBit.the-variants.{DmaSlave, DmaDecode}
-use Rattle.engine.specs.declared.state.Outcome.{Outcome}
-use Rattle.engine.specs.declared.state.Outcome.the-variants.{Complete, Internal, Slave, Decode}
-use Rattle.engine.specs.declared.state.Phase.{Phase}
-use Rattle.engine.specs.declared.state.Phase.the-variants.{Move, Update}
-use Rattle.engine.specs.State.{busyOf, errorSetOf, withPhase}
+use Rattle.kit.specs.declared.settings.Settings.{Settings}
+use Rattle.state.specs.declared.engine.Engine.{Engine}
+use Rattle.state.specs.declared.engine.Transfer.{Transfer}
+use Rattle.state.specs.declared.engine.ErrorBit.{ErrorBit}
+use Rattle.state.specs.declared.engine.ErrorBit.the-variants.{DmaSlvErr, DmaDecErr}
+use Rattle.state.specs.declared.engine.Outcome.{Outcome}
+use Rattle.state.specs.declared.engine.Outcome.the-variants.{Complete, Internal, Slave, Decode}
+use Rattle.state.specs.declared.engine.Phase.{Phase}
+use Rattle.state.specs.declared.engine.Phase.the-variants.{Move, Update}
+use Rattle.state.specs.State.{busyOf, errorSetOf, withPhase}
 use Rattle.steps.specs.declared.event.Event.the-variants.{Move as Moved}
 use Rattle.steps.specs.Step.{Next, haltedOf, endedOf, movedOnOf, stopOf, moveBy, updateBy, advanceBy, advanceOf}
 use Rattle.claims.specs.Transfers.{Act, step, write, read, act, after, burstsOf, bursts, steps, resets, inTransfer, Runs, Own, left, Copied}
@@ -42,10 +42,10 @@ use Rattle.claims.proofs.Bytes.{Held, Whole, held-burst, whole-simple, 
 
 -- no error bit is set at the end
 abbrev pub Good : Engine → List Act → Type 0
-Good s acts = errorSetOf (after s acts .status .bit) ≡ false
+Good s acts = errorSetOf (after s acts .status .fault) ≡ false
 
 -- a state that is out of the transfer, with an error bit set, does not end it well
-bad : (acts : List Act) (s : Engine) → inTransfer (s .phase) ≡ false → errorSetOf (s .status .bit) ≡ true → Runs s acts → Good s acts → ⊥
+bad : (acts : List Act) (s : Engine) → inTransfer (s .phase) ≡ false → errorSetOf (s .status .fault) ≡ true → Runs s acts → Good s acts → ⊥
 bad [] s out error runs good = never (sym good ∙ error)
 bad (a ∷ acts) s out error runs good = never (sym out ∙ runs .0)
 
@@ -59,8 +59,8 @@ module _ (s₀ : Engine) (t : Transfer) where
   pub record Now (p : Phase) (s : Engine) : Type 0 where
     pub phase : s .phase ≡ p
     pub settings : s .settings ≡ s₀ .settings
-    pub mode : s .control .chain ≡ s₀ .control .chain
-    pub current : s .chain .current ≡ s₀ .chain .current
+    pub mode : s .control .sgmode ≡ s₀ .control .sgmode
+    pub current : s .pointers .current ≡ s₀ .pointers .current
 
   -- what acts do: their bursts, their steps, and, where only they touch the memory, what they make of it
   pub record Rest (cuts : List Burst) (count : ℕ) (Before : List ℕ → List ℕ → Type 0)
@@ -100,25 +100,25 @@ module _ (s₀ : Engine) (t : Transfer) where
       × Rest [] 1 (Whole s₀ t) (burstsOf (r .event) ++ bursts (r .engine) acts) (suc (steps acts)) (λ x. (m ≡ x) × Own (r .memory) (r .engine) acts)
       (λ x. left (r .memory) (r .engine) acts)
 
-  module _ (chain : s₀ .control .chain ≡ true) (s : Engine) (m : List ℕ) (windows : List Window) (acts : List Act) where
+  module _ (chain : s₀ .control .sgmode ≡ true) (s : Engine) (m : List ℕ) (windows : List Window) (acts : List Act) where
     abbrev Leads : Outcome → Next → Type 0
     Leads o r = Runs (r .engine) acts → Good (r .engine) acts → Settled o m acts r
 
-    written : s .chain .current ≡ s₀ .chain .current → s .chain .current + 0x1C + 4 ≤ length m → (m₀ : List ℕ) → Whole s₀ t m₀ m
-        → Copied s₀ t m₀ (sets m (s .chain .current + 0x1C) (bytesOf 0x80000000))
+    written : s .pointers .current ≡ s₀ .pointers .current → s .pointers .current + 0x1C + 4 ≤ length m → (m₀ : List ℕ) → Whole s₀ t m₀ m
+        → Copied s₀ t m₀ (sets m (s .pointers .current + 0x1C) (bytesOf 0x80000000))
     written e fits m₀ h =
         subst (λ (c : ℕ). Copied s₀ t m₀ (sets m (c + 0x1C) (bytesOf 0x80000000))) (sym e)
         (whole-chain s₀ t chain m₀ m h (subst (λ (c : ℕ). c + 0x1C + 4 ≤ length m) e fits))
 
-    judged : (o : Outcome) → s .chain .current ≡ s₀ .chain .current → (v : Verdict)
-        → groupOf (length m) windows (s .chain .current + 0x1C) 4 ≡ v → Leads o (updateBy s o m v)
+    judged : (o : Outcome) → s .pointers .current ≡ s₀ .pointers .current → (v : Verdict)
+        → groupOf (length m) windows (s .pointers .current + 0x1C) 4 ≡ v → Leads o (updateBy s o m v)
     judged Complete e Okay okay =
-        let fits = group-okay-fits (length m) windows (s .chain .current + 0x1C) 4 okay (omega arith) in
-        let m′ : List ℕ = sets m (s .chain .current + 0x1C) (bytesOf 0x80000000) in
+        let fits = group-okay-fits (length m) windows (s .pointers .current + 0x1C) 4 okay (omega arith) in
+        let m′ : List ℕ = sets m (s .pointers .current + 0x1C) (bytesOf 0x80000000) in
         cases
         (λ (x : Engine). Runs x acts → Good x acts → (Complete ≡ Complete)
         × Rest [] 1 (Whole s₀ t) (bursts x acts) (suc (steps acts)) (λ y. (m ≡ y) × Own m′ x acts) (λ y. left m′ x acts))
-        (eqb (s .chain .current) (s .chain .tail))
+        (eqb (s .pointers .current) (s .pointers .tail))
         (λ _ runs _. (refl, over-rest acts _ m m′ [] refl runs refl refl (written e fits)))
         (λ _ runs _. (refl, over-rest acts _ m m′ [] refl runs refl refl (written e fits)))
     judged Internal e Okay okay = λ runs good. absurd (bad acts _ refl refl runs good)
@@ -131,9 +131,9 @@ module _ (s₀ : Engine) (t : Transfer) where
     unfolding advanceOf
     settled o now =
         subst (λ (p : Phase). Leads o (advanceBy s m windows p)) (sym (now .phase))
-        (judged o (now .current) (groupOf (length m) windows (s .chain .current + 0x1C) 4) refl)
+        (judged o (now .current) (groupOf (length m) windows (s .pointers .current + 0x1C) 4) refl)
 
-  pub settle : (chain : s₀ .control .chain ≡ true) (acts : List Act) (s : Engine) (o : Outcome) → Now (Update o) s → Runs s acts → Good s acts
+  pub settle : (chain : s₀ .control .sgmode ≡ true) (acts : List Act) (s : Engine) (o : Outcome) → Now (Update o) s → Runs s acts → Good s acts
       → (o ≡ Complete) × Rest [] 1 (Whole s₀ t) (bursts s acts) (steps acts) (λ m. Own m s acts) (λ m. left m s acts)
   settle chain [] s o now runs good = absurd (never (sym runs ∙ ap inTransfer (now .phase)))
   settle chain (step m windows ∷ acts) s o now runs good = settled chain s m windows acts o now (runs .2) good
@@ -149,7 +149,7 @@ module _ (s₀ : Engine) (t : Transfer) where
 
   -- after the last burst, chain mode takes one more step
   abbrev pub last : ℕ
-  last = when (s₀ .control .chain) 1 0
+  last = when (s₀ .control .sgmode) 1 0
 
   abbrev pub Goes : ℕ → Engine → List Act → Type 0
   Goes k s acts = Rest (remains k) (length (remains k) + last) (Held s₀ t k) (bursts s acts) (steps acts) (λ m. Own m s acts) (λ m. left m s acts)
@@ -172,7 +172,7 @@ module _ (s₀ : Engine) (t : Transfer) where
   abbrev carry : ℕ → ℕ → List ℕ → List ℕ
   carry k n m = copied m (t .source + k) (t .destination + k) n
 
-  module _ (legals : legalSettings (s₀ .settings .width) (s₀ .settings .beats) ≡ true) where
+  module _ (legals : legalOf (s₀ .settings) ≡ true) where
     -- a step lends m to the burst of n bytes after the first k, the first of what remains
     module _ (s : Engine) (k : ℕ) (now : Now (Move (movedTo t k)) s) (m : List ℕ) (windows : List Window) (acts : List Act)
         (n : ℕ) (first : remains k ≡ piece k n ∷ remains (k + n)) (some : 0 < n) (within : k + n ≤ t .total) where
@@ -199,7 +199,7 @@ module _ (s₀ : Engine) (t : Transfer) where
             (cut-stop (s₀ .settings .width) (s₀ .settings .beats) (t .destination + (k + n)) (t .destination + t .total) (omega arith))
 
         ended : k + n ≡ t .total → Takes k m acts (carriedTo (endedOf s))
-        ended e = cases (λ (x : Engine). Takes k m acts (carriedTo x)) (s .control .chain)
+        ended e = cases (λ (x : Engine). Takes k m acts (carriedTo x)) (s .control .sgmode)
             (λ c onward runs good.
             let chain = sym (now .mode) ∙ c in
             let r = settle chain acts (withPhase s (Update Complete)) Complete
@@ -227,9 +227,9 @@ module _ (s₀ : Engine) (t : Transfer) where
             })
 
       -- a move that fails leads to an error bit
-      faulted : (o : Outcome) (x : ErrorBit) → (o ≡ Complete → ⊥) → errorSetOf x ≡ true → Runs (when (s .control .chain) (withPhase s (Update o)) (haltedOf s x)) acts
-          → Good (when (s .control .chain) (withPhase s (Update o)) (haltedOf s x)) acts → ⊥
-      faulted o x f e = cases (λ (y : Engine). Runs y acts → Good y acts → ⊥) (s .control .chain)
+      faulted : (o : Outcome) (x : ErrorBit) → (o ≡ Complete → ⊥) → errorSetOf x ≡ true → Runs (when (s .control .sgmode) (withPhase s (Update o)) (haltedOf s x)) acts
+          → Good (when (s .control .sgmode) (withPhase s (Update o)) (haltedOf s x)) acts → ⊥
+      faulted o x f e = cases (λ (y : Engine). Runs y acts → Good y acts → ⊥) (s .control .sgmode)
           (λ c runs good. f (settle (sym (now .mode) ∙ c) acts (withPhase s (Update o)) o
           (record { phase = refl; settings = now .settings; mode = now .mode; current = now .current }) runs good .0))
           (λ c runs good. bad acts (haltedOf s x) refl e runs good)
@@ -239,8 +239,8 @@ module _ (s₀ : Engine) (t : Transfer) where
       judge Okay okay =
           let both = worse-okay (groupOf (length m) windows (t .source + k) n) (groupOf (length m) windows (t .destination + k) n) okay in
           carried (group-okay-fits (length m) windows (t .source + k) n (both .0) some) (group-okay-fits (length m) windows (t .destination + k) n (both .1) some)
-      judge SlaveError _ = λ onward runs good. absurd (faulted Slave DmaSlave (λ e. let z : _≡_ {A = ℕ} 0 1 = cc in omega arith) refl runs good)
-      judge DecodeError _ = λ onward runs good. absurd (faulted Decode DmaDecode (λ e. let z : _≡_ {A = ℕ} 0 1 = cc in omega arith) refl runs good)
+      judge SlaveError _ = λ onward runs good. absurd (faulted Slave DmaSlvErr (λ e. let z : _≡_ {A = ℕ} 0 1 = cc in omega arith) refl runs good)
+      judge DecodeError _ = λ onward runs good. absurd (faulted Decode DmaDecErr (λ e. let z : _≡_ {A = ℕ} 0 1 = cc in omega arith) refl runs good)
 
     moves-on : (s : Engine) (k : ℕ) → k < t .total → Now (Move (movedTo t k)) s → (m : List ℕ) (windows : List Window) (acts : List Act)
         → Takes k m acts (advanceOf s m windows)

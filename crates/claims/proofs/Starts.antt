@@ -15,16 +15,16 @@ use Rattle.memory.specs.declared.window.Window.{Window}
 use Rattle.memory.specs.declared.verdict.Verdict.{Verdict}
 use Rattle.memory.specs.declared.verdict.Verdict.the-variants.{Okay, Slave as SlaveError, Decode as DecodeError}
 use Rattle.memory.specs.Verdict.{groupOf}
-use Rattle.engine.specs.declared.state.Engine.{Engine}
-use Rattle.engine.specs.declared.state.Transfer.{Transfer}
-use Rattle.engine.specs.declared.state.Outcome.{Outcome}
-use Rattle.engine.specs.declared.state.Outcome.the-variants.{Internal}
-use Rattle.engine.specs.declared.state.Phase.{Phase}
-use Rattle.engine.specs.declared.state.Phase.the-variants.{Idle, Fetch, Move, Update}
-use Rattle.engine.specs.State.{phaseFits, wellFormedOf}
-use Rattle.engine.specs.Bits.{bit}
+use Rattle.state.specs.declared.engine.Engine.{Engine}
+use Rattle.state.specs.declared.engine.Transfer.{Transfer}
+use Rattle.state.specs.declared.engine.Outcome.{Outcome}
+use Rattle.state.specs.declared.engine.Outcome.the-variants.{Internal}
+use Rattle.state.specs.declared.engine.Phase.{Phase}
+use Rattle.state.specs.declared.engine.Phase.the-variants.{Idle, Fetch, Move, Update}
+use Rattle.state.specs.State.{phaseFits, wellFormedOf}
+use Rattle.state.specs.Bits.{bit}
 use Rattle.registers.specs.Write.{writeOf}
-use Rattle.engine.proofs.WellFormed.{well-formed}
+use Rattle.state.proofs.WellFormed.{well-formed}
 use Rattle.steps.specs.declared.event.Event.{Event}
 use Rattle.steps.specs.declared.event.Event.the-variants.{Fetch as Fetched}
 use Rattle.steps.specs.declared.event.Advanced.{Advanced}
@@ -38,12 +38,12 @@ module _ (s : Engine) (out : inTransfer (s .phase) ≡ false) where
 
   -- what the descriptor in memory m says
   abbrev described : List ℕ → Phase
-  described m = describedOf (wordAt m (s .chain .current + 0x08)) (wordAt m (s .chain .current + 0x10)) (wordAt m (s .chain .current + 0x18) % 2 ^ 23)
+  described m = describedOf (wordAt m (s .pointers .current + 0x08)) (wordAt m (s .pointers .current + 0x10)) (wordAt m (s .pointers .current + 0x18) % 2 ^ 23)
 
   -- the step to r fetched it
   record Took (m : List ℕ) (r : Next) : Type 0 where
     fetching : s .phase ≡ Fetch
-    event : r .event ≡ Fetched (s .chain .current)
+    event : r .event ≡ Fetched (s .pointers .current)
     memory : r .memory ≡ m
     same : Same s (r .engine)
     phase : r .engine .phase ≡ described m
@@ -54,14 +54,14 @@ module _ (s : Engine) (out : inTransfer (s .phase) ≡ false) where
   taken : (m : List ℕ) → s .phase ≡ Fetch → (v : Verdict) → StepStarts m (next (fetchBy s m v) m)
   unfolding takeOf
   taken m e Okay =
-      cases (λ (r : Advanced). StepStarts m (next r m)) (bit 31 (wordAt m (s .chain .current + 0x1C))) (λ _. inl refl)
+      cases (λ (r : Advanced). StepStarts m (next r m)) (bit 31 (wordAt m (s .pointers .current + 0x1C))) (λ _. inl refl)
       (λ _. inr (record { fetching = e; event = refl; memory = refl; same = record { settings = refl; mode = refl; current = refl }; phase = refl }))
   taken m e SlaveError = inl refl
   taken m e DecodeError = inl refl
 
   by-phase : (m : List ℕ) (windows : List Window) (p : Phase) → s .phase ≡ p → StepStarts m (advanceBy s m windows p)
   by-phase m windows Idle e = inl out
-  by-phase m windows Fetch e = taken m e (groupOf (length m) windows (s .chain .current) 32)
+  by-phase m windows Fetch e = taken m e (groupOf (length m) windows (s .pointers .current) 32)
   by-phase m windows (Move u) e = absurd (never (sym out ∙ ap inTransfer e))
   by-phase m windows (Update o) e = absurd (never (sym out ∙ ap inTransfer e))
 
@@ -83,8 +83,8 @@ module _ (s : Engine) (out : inTransfer (s .phase) ≡ false) where
 -- ---- what follows for the transfer t
 
 -- a fetch only happens in chain mode
-chain-mode : (s : Engine) → wellFormedOf s ≡ true → s .phase ≡ Fetch → s .control .chain ≡ true
-chain-mode s well e = subst (λ (p : Phase). phaseFits p (s .control .chain) ≡ true) e (well-formed s well .phase-fits)
+chain-mode : (s : Engine) → wellFormedOf s ≡ true → s .phase ≡ Fetch → s .control .sgmode ≡ true
+chain-mode s well e = subst (λ (p : Phase). phaseFits p (s .control .sgmode) ≡ true) e (well-formed s well .phase-fits)
 
 module _ (s : Engine) (t : Transfer) where
   -- a phase that is in a transfer is not out of one
@@ -105,7 +105,7 @@ module _ (s : Engine) (t : Transfer) where
     pub now : Now s t (Move (movedTo t 0)) (act s first)
     pub some : 0 < t .total
     pub moves : (acts : List Act) → bursts s (first ∷ acts) ≡ bursts (act s first) acts
-    pub takes : (acts : List Act) → steps (first ∷ acts) ≡ when (s .control .chain) 1 0 + steps acts
+    pub takes : (acts : List Act) → steps (first ∷ acts) ≡ when (s .control .sgmode) 1 0 + steps acts
     pub owned : (m : List ℕ) (acts : List Act) → Own m s (first ∷ acts) → Own m (act s first) acts
     pub leaves : (m : List ℕ) (acts : List Act) → Own m s (first ∷ acts) → left m s (first ∷ acts) ≡ left m (act s first) acts
 
@@ -117,7 +117,7 @@ module _ (s : Engine) (t : Transfer) where
       → advanceOf s m windows .engine .phase ≡ Move t → StepStarts s out m (advanceOf s m windows) → Started (step m windows)
   by-step lent windows well out e (inl o) = absurd (inside e o)
   by-step lent windows well out e (inr k) =
-      let c = s .chain .current in
+      let c = s .pointers .current in
       let total = wordAt lent (c + 0x18) % 2 ^ 23 in
       let (d, some) = says (wordAt lent (c + 0x08)) (wordAt lent (c + 0x10)) total (sym (k .phase) ∙ e) in
       let chain = chain-mode s well (k .fetching) in
@@ -166,7 +166,7 @@ module _ (s : Engine) (o : Outcome) (well : wellFormedOf s ≡ true) (out : inTr
   -- an update without a move is of a count of 0, in chain mode
   pub record Barren (first : Act) : Type 0 where
     pub internal : Internal ≡ o
-    pub chain : s .control .chain ≡ true
+    pub chain : s .control .sgmode ≡ true
     pub now : (t : Transfer) → Now s t (Update o) (act s first)
 
   pub barren : (first : Act) → act s first .phase ≡ Update o → Barren first
@@ -175,7 +175,7 @@ module _ (s : Engine) (o : Outcome) (well : wellFormedOf s ≡ true) (out : inTr
       go : StepStarts s out m (advanceOf s m windows) → Barren (step m windows)
       go (inl x) = absurd (outside e x)
       go (inr k) = record {
-        internal = zero-count (wordAt m (s .chain .current + 0x08)) (wordAt m (s .chain .current + 0x10)) (wordAt m (s .chain .current + 0x18) % 2 ^ 23) (sym (k .phase) ∙ e);
+        internal = zero-count (wordAt m (s .pointers .current + 0x08)) (wordAt m (s .pointers .current + 0x10)) (wordAt m (s .pointers .current + 0x18) % 2 ^ 23) (sym (k .phase) ∙ e);
         chain = chain-mode s well (k .fetching);
         now = λ t. record { phase = e; settings = k .same .settings; mode = k .same .mode; current = k .same .current };
       }

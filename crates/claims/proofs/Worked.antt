@@ -7,7 +7,7 @@ use Rattle.kit.proofs.Choice.{never}
 use Rattle.cut.specs.Cut.{reach, burstEnd}
 use Rattle.memory.specs.Windows.{sick}
 use Rattle.memory.specs.Verdict.{groupOf}
-use Rattle.engine.specs.State.{wellFormedOf}
+use Rattle.state.specs.State.{wellFormedOf}
 use Rattle.registers.specs.Write.{registerWrittenOf}
 use Rattle.steps.specs.Step.{takeOf, advanceOf}
 use Rattle.claims.specs.Worked.{SimpleWorked, SimpleCleared, ChainWorked, ChainReplaced}

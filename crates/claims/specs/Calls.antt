@@ -5,10 +5,10 @@ use mathlib.Core.Bool.{true, false}
 use mathlib.Core.List.{List, [], _∷_}
 use lib.ListN.{length, getD}
 use Rattle.kit.specs.Limits.{mostMemory, mostWindows, addressEnd}
-use Rattle.kit.specs.Settings.{legalSettings}
+use Rattle.kit.specs.Settings.{legalOf}
 use Rattle.memory.specs.declared.window.Window.{Window}
-use Rattle.engine.specs.declared.state.Engine.{Engine}
-use Rattle.engine.specs.State.{busyOf, wellFormedOf}
+use Rattle.state.specs.declared.engine.Engine.{Engine}
+use Rattle.state.specs.State.{busyOf, wellFormedOf}
 use Rattle.steps.specs.Step.{advanceOf}
 use Rattle.steps.specs.Run.{Walk, begun, walkFrom, refusalOf}
 use Rattle.claims.specs.Transfers.{Act, step, write, read, act, after, steps, Own, left}
@@ -24,10 +24,10 @@ Proper (read offset ∷ more) = Proper more
 
 -- a state that a caller can hold: legal settings, well formed, SA and DA of 32 bits
 pub record Sound (s : Engine) : Type 0 where
-  pub legal : legalSettings (s .settings .width) (s .settings .beats) ≡ true
+  pub legal : legalOf (s .settings) ≡ true
   pub well : wellFormedOf s ≡ true
-  pub source : s .simple .source < addressEnd
-  pub destination : s .simple .destination < addressEnd
+  pub source : s .simple .sa < addressEnd
+  pub destination : s .simple .da < addressEnd
 
 -- no step along the acts is refused
 abbrev pub Accepted : Engine → List Act → Type 0

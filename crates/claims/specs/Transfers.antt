@@ -9,19 +9,19 @@ use mathlib.Core.List.{List, [], _∷_, _++_}
 use lib.ListN.{length, getD}
 use lib.Dec.{eqb}
 use Rattle.kit.specs.Choice.{both}
-use Rattle.kit.specs.Settings.{legalSettings}
+use Rattle.kit.specs.Settings.{legalOf}
 use Rattle.kit.specs.Word.{wordAt}
 use Rattle.cut.specs.declared.Burst.{Burst}
 use Rattle.cut.specs.Cut.{cut}
 use Rattle.cut.specs.Legal.{AllLegal, Tiles, Covers}
 use Rattle.memory.specs.declared.window.Window.{Window}
-use Rattle.engine.specs.declared.state.Engine.{Engine}
-use Rattle.engine.specs.declared.state.Transfer.{Transfer}
-use Rattle.engine.specs.declared.state.Outcome.{Outcome}
-use Rattle.engine.specs.declared.state.Phase.{Phase}
-use Rattle.engine.specs.declared.state.Phase.the-variants.{Idle, Fetch, Move, Update}
-use Rattle.engine.specs.State.{errorSetOf, wellFormedOf}
-use Rattle.engine.specs.Bits.{bit}
+use Rattle.state.specs.declared.engine.Engine.{Engine}
+use Rattle.state.specs.declared.engine.Transfer.{Transfer}
+use Rattle.state.specs.declared.engine.Outcome.{Outcome}
+use Rattle.state.specs.declared.engine.Phase.{Phase}
+use Rattle.state.specs.declared.engine.Phase.the-variants.{Idle, Fetch, Move, Update}
+use Rattle.state.specs.State.{errorSetOf, wellFormedOf}
+use Rattle.state.specs.Bits.{bit}
 use Rattle.registers.specs.Write.{writeOf}
 use Rattle.steps.specs.declared.event.Event.{Event}
 use Rattle.steps.specs.declared.event.Event.the-variants.{None, Fetch as Fetched, Move as Moved, Fault, Update as Updated, Halt}
@@ -93,29 +93,29 @@ Runs s (a ∷ more) = (inTransfer (s .phase) ≡ true) × (resets a ≡ false) �
 -- the transfer t, from its start to its end without error or reset: its first act takes a well-formed engine that is in no
 -- transfer to the move of t
 pub record Completes (s : Engine) (t : Transfer) (first : Act) (rest : List Act) : Type 0 where
-  pub legal : legalSettings (s .settings .width) (s .settings .beats) ≡ true
+  pub legal : legalOf (s .settings) ≡ true
   pub well : wellFormedOf s ≡ true
   pub before : inTransfer (s .phase) ≡ false
   pub starts : act s first .phase ≡ Move t
   pub runs : Runs (act s first) rest
-  pub good : errorSetOf (after (act s first) rest .status .bit) ≡ false
+  pub good : errorSetOf (after (act s first) rest .status .fault) ≡ false
 
 -- ---- claim 0: start
 
 -- such a first act is the fetch of the current descriptor in chain mode, or a write of BTT in simple mode; t is what the
 -- descriptor's words, or SA, DA and the value written, say, and nothing of it is moved yet
 pub data Start (s : Engine) (t : Transfer) : Act → Type 0 where
-  fetch : (m : List ℕ) (windows : List Window) → s .phase ≡ Fetch → s .control .chain ≡ true
-      → advanceOf s m windows .event ≡ Fetched (s .chain .current)
+  fetch : (m : List ℕ) (windows : List Window) → s .phase ≡ Fetch → s .control .sgmode ≡ true
+      → advanceOf s m windows .event ≡ Fetched (s .pointers .current)
       → t ≡ record {
-        source = wordAt m (s .chain .current + 0x08);
-        destination = wordAt m (s .chain .current + 0x10);
-        total = wordAt m (s .chain .current + 0x18) % 2 ^ 23;
+        source = wordAt m (s .pointers .current + 0x08);
+        destination = wordAt m (s .pointers .current + 0x10);
+        total = wordAt m (s .pointers .current + 0x18) % 2 ^ 23;
         moved = 0;
       }
       → Start s t (step m windows)
-  count : (value : ℕ) → s .phase ≡ Idle → s .control .chain ≡ false
-      → t ≡ record { source = s .simple .source; destination = s .simple .destination; total = value % 2 ^ 23; moved = 0 }
+  count : (value : ℕ) → s .phase ≡ Idle → s .control .sgmode ≡ false
+      → t ≡ record { source = s .simple .sa; destination = s .simple .da; total = value % 2 ^ 23; moved = 0 }
       → Start s t (write 0x28 value)
 
 abbrev pub Begin : Type 0
@@ -124,7 +124,7 @@ Begin = (s : Engine) (t : Transfer) (first : Act) (rest : List Act) → Complete
 -- a fetch that goes to its update at once, as its count is 0, moves nothing and never ends without error
 abbrev pub Empty : Type 0
 Empty = (s : Engine) (outcome : Outcome) (first : Act) (rest : List Act) → wellFormedOf s ≡ true → inTransfer (s .phase) ≡ false
-    → act s first .phase ≡ Update outcome → Runs (act s first) rest → errorSetOf (after (act s first) rest .status .bit) ≡ true
+    → act s first .phase ≡ Update outcome → Runs (act s first) rest → errorSetOf (after (act s first) rest .status .fault) ≡ true
 
 -- ---- claim 1: cover
 
@@ -153,7 +153,7 @@ Outside x a n = (x < a) ⊎ (a + n ≤ x)
 
 -- where the status word of the current descriptor stands
 abbrev pub statusPlace : Engine → ℕ
-statusPlace s = s .chain .current + 0x1C
+statusPlace s = s .pointers .current + 0x1C
 
 -- only these steps touch the memory: the first is lent m, each other one what the one before left
 abbrev pub Own : List ℕ → Engine → List Act → Type 0
@@ -174,7 +174,7 @@ left m s (read offset ∷ more) = left m s more
 pub record Alone (s : Engine) (t : Transfer) (m : List ℕ) (acts : List Act) : Type 0 where
   pub own : Own m s acts
   pub apart : Apart (t .source) (t .total) (t .destination) (t .total)
-  pub misses : s .control .chain ≡ true → Apart (t .destination) (t .total) (statusPlace s) 4
+  pub misses : s .control .sgmode ≡ true → Apart (t .destination) (t .total) (statusPlace s) 4
 
 -- from memory m to memory m′: the destination holds the source's bytes as they were, both within the memory; in chain
 -- mode the status word says complete; no other byte differs
@@ -183,8 +183,8 @@ pub record Copied (s : Engine) (t : Transfer) (m m′ : List ℕ) : Type 0 where
   pub sourceWithin : t .source + t .total ≤ length m
   pub destinationWithin : t .destination + t .total ≤ length m
   pub bytes : (i : ℕ) → i < t .total → getD m′ (t .destination + i) 0 ≡ getD m (t .source + i) 0
-  pub status : s .control .chain ≡ true → wordAt m′ (statusPlace s) ≡ 0x80000000
-  pub others : (x : ℕ) → Outside x (t .destination) (t .total) → (s .control .chain ≡ true → Outside x (statusPlace s) 4) → getD m′ x 0 ≡ getD m x 0
+  pub status : s .control .sgmode ≡ true → wordAt m′ (statusPlace s) ≡ 0x80000000
+  pub others : (x : ℕ) → Outside x (t .destination) (t .total) → (s .control .sgmode ≡ true → Outside x (statusPlace s) 4) → getD m′ x 0 ≡ getD m x 0
 
 abbrev pub Copy : Type 0
 Copy = (s : Engine) (t : Transfer) (first : Act) (rest : List Act) (m : List ℕ) → Completes s t first rest → Alone s t m (first ∷ rest)
@@ -194,8 +194,8 @@ Copy = (s : Engine) (t : Transfer) (first : Act) (rest : List Act) (m : List ℕ
 
 -- in chain mode a fetch, the bursts and an update; in simple mode the bursts
 pub record Counted (s : Engine) (acts : List Act) : Type 0 where
-  pub chain : s .control .chain ≡ true → steps acts ≡ 2 + length (bursts s acts)
-  pub simple : s .control .chain ≡ false → steps acts ≡ length (bursts s acts)
+  pub chain : s .control .sgmode ≡ true → steps acts ≡ 2 + length (bursts s acts)
+  pub simple : s .control .sgmode ≡ false → steps acts ≡ length (bursts s acts)
 
 abbrev pub Steps : Type 0
 Steps = (s : Engine) (t : Transfer) (first : Act) (rest : List Act) → Completes s t first rest → Counted s (first ∷ rest)

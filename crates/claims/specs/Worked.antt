@@ -7,11 +7,11 @@ use lib.ListN.{replicate, take}
 use Rattle.kit.specs.Word.{bytesOf}
 use Rattle.cut.specs.declared.Burst.{Burst}
 use Rattle.memory.specs.declared.window.Window.{Window}
-use Rattle.engine.specs.declared.state.Engine.{Engine}
-use Rattle.engine.specs.declared.state.Transfer.{Transfer}
-use Rattle.engine.specs.declared.state.ErrorBit.the-variants.{Clear}
-use Rattle.engine.specs.declared.state.Phase.{Phase}
-use Rattle.engine.specs.declared.state.Phase.the-variants.{Idle, Fetch}
+use Rattle.state.specs.declared.engine.Engine.{Engine}
+use Rattle.state.specs.declared.engine.Transfer.{Transfer}
+use Rattle.state.specs.declared.engine.ErrorBit.the-variants.{Clear}
+use Rattle.state.specs.declared.engine.Phase.{Phase}
+use Rattle.state.specs.declared.engine.Phase.the-variants.{Idle, Fetch}
 use Rattle.claims.specs.Transfers.{Act, step, write, read, after, bursts, steps, Completes, Alone, left}
 
 -- every premise is met, and these are the bursts and the steps
@@ -30,10 +30,10 @@ rising (suc n) a = a ∷ rising n (suc a)
 abbrev pub engine : Bool → Phase → Engine
 engine chain phase = record {
   settings = record { width = 4; beats = 16 };
-  control = record { chain = chain; complete = true; error = true };
-  status = record { bit = Clear; complete = true; error = false };
-  chain = record { current = 0; tail = 0; next = 0; held = 0 };
-  simple = record { source = 3; destination = 100; count = 0 };
+  control = record { sgmode = chain; iocen = true; erren = true };
+  status = record { fault = Clear; ioc = true; err = false };
+  pointers = record { current = 0; tail = 0; next = 0; heldnext = 0 };
+  simple = record { sa = 3; da = 100; btt = 0 };
   phase = phase;
 }
 
@@ -72,9 +72,9 @@ SimpleWorked =
 -- IOC_Irq stood before that write, not after it, and stands again at the end
 abbrev pub SimpleCleared : Type 0
 SimpleCleared =
-    (after simpleEngine (simpleStart ∷ take 1 simpleRest) .status .complete ≡ true)
-    × (after simpleEngine (simpleStart ∷ take 2 simpleRest) .status .complete ≡ false)
-    × (after simpleEngine (simpleStart ∷ simpleRest) .status .complete ≡ true)
+    (after simpleEngine (simpleStart ∷ take 1 simpleRest) .status .ioc ≡ true)
+    × (after simpleEngine (simpleStart ∷ take 2 simpleRest) .status .ioc ≡ false)
+    × (after simpleEngine (simpleStart ∷ simpleRest) .status .ioc ≡ true)
 
 -- ---- chain mode: the descriptor at 0 moves 65 bytes from 89 to 163
 
@@ -113,4 +113,4 @@ ChainWorked =
 
 -- by the new tail the engine goes on to fetch the next descriptor; by the old one it had been idle
 abbrev pub ChainReplaced : Type 0
-ChainReplaced = (after chainEngine (chainStart ∷ chainRest) .phase ≡ Fetch) × (after chainEngine (chainStart ∷ chainRest) .chain .current ≡ 64)
+ChainReplaced = (after chainEngine (chainStart ∷ chainRest) .phase ≡ Fetch) × (after chainEngine (chainStart ∷ chainRest) .pointers .current ≡ 64)

@@ -4,6 +4,7 @@ use mathlib.Core.Bool.{Bool, false}
 use mathlib.Core.List.{List, [], _∷_}
 use lib.Dec.{eqb}
 use Rattle.kit.specs.Choice.{both, either}
+use Rattle.kit.specs.declared.settings.Settings.{Settings}
 
 -- x stands in the list
 abbrev pub among : ℕ → List ℕ → Bool
@@ -24,3 +25,6 @@ legalBeats l = among l beatCounts
 
 abbrev pub legalSettings : ℕ → ℕ → Bool
 legalSettings w l = both (legalWidth w) (legalBeats l)
+
+abbrev pub legalOf : Settings → Bool
+legalOf s = legalSettings (s .width) (s .beats)

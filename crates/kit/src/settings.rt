@@ -1,6 +1,12 @@
 // Document 01, answer 1: the widths and burst lengths an engine can be built with.
 ghost use mathlib.Core.Path.{_≡_};
-ghost use Rattle.kit.specs.Settings.{legalWidth, legalBeats, legalSettings};
+ghost use Rattle.kit.specs.Settings.{legalWidth, legalBeats, legalOf};
+
+// Width in bytes and beats of a burst.
+pub struct Settings {
+    pub width: u32,
+    pub beats: u32,
+}
 
 fn legal_width(width: u32) -> bool
     ensures { λ r. ⌜ r ≡ legalWidth width ⌝ }
@@ -21,11 +27,11 @@ fn legal_beats(beats: u32) -> bool
 }
 
 // Whether width and beats are both on document 01's lists.
-pub fn legal(width: u32, beats: u32) -> bool
-    ensures { λ r. ⌜ r ≡ legalSettings width beats ⌝ }
+pub fn legal(settings: Settings) -> bool
+    ensures { λ r. ⌜ r ≡ legalOf settings ⌝ }
 {
-    if legal_width(width) {
-        legal_beats(beats)
+    if legal_width(settings.width) {
+        legal_beats(settings.beats)
     } else {
         false
     }

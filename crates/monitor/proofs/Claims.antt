@@ -15,7 +15,7 @@ use Rattle.monitor.specs.declared.clock.Clock.{Clock}
 use Rattle.monitor.specs.declared.monitor.Monitor.{Monitor}
 use Rattle.monitor.specs.declared.monitor.Clocked.{Clocked}
 use Rattle.monitor.specs.Monitor.{freshOf, flagsOf, snapshotOf, clockOf, lowestOf, Seen, seen}
-use Rattle.monitor.specs.Claims.{Up, Down, after, allRunning, flagNumbers, Claims, Single}
+use Rattle.monitor.specs.Claims.{Up, Down, after, allOutOfReset, flagNumbers, Claims, Unique}
 use Rattle.monitor.proofs.Bits.{bit-none, ones-standing, trailing-up, trailing-first}
 use Rattle.monitor.proofs.Tables.{raise-bit, raised, flags-cases, raised-le, raised-up, raised-known, raised-lt}
 
@@ -29,17 +29,17 @@ apart true u e = (refl, e)
 apart false u e = absurd (never e)
 
 -- what each clock out of reset keeps, clocks out of reset keep
-meanwhile : (P : Monitor → Type 0) (width : ℕ) → ((m : Monitor) (c : Clock) → c .running ≡ true → P m → P (clockOf m width c)) → (m : Monitor) (cs : List Clock)
-    → allRunning cs ≡ true → P m → P (after m width cs)
+meanwhile : (P : Monitor → Type 0) (width : ℕ) → ((m : Monitor) (c : Clock) → c .aresetn ≡ true → P m → P (clockOf m width c)) → (m : Monitor) (cs : List Clock)
+    → allOutOfReset cs ≡ true → P m → P (after m width cs)
 meanwhile P width step m [] e h = h
 meanwhile P width step m (c ∷ cs) e h =
-    let r = apart (c .running) (allRunning cs) e in
+    let r = apart (c .aresetn) (allOutOfReset cs) e in
     meanwhile P width step (clockOf m width c) cs (r .1) (step m c (r .0) h)
 
 -- ---- one clock
 
 module _ (m : Monitor) (width : ℕ) (c : Clock) where
-  module _ (e : c .running ≡ true) where
+  module _ (e : c .aresetn ≡ true) where
     out-of-reset : (P : ℕ → Type 0) → P (raised m width c) → P (flagsOf m width c)
     out-of-reset P h = flags-cases P m width c (λ f. absurd (never (sym f ∙ e))) (λ _. h)
 
@@ -61,14 +61,14 @@ module _ (m : Monitor) (width : ℕ) (c : Clock) where
     unfolding snapshotOf
     wait f z = sym (yes _ e (no _ (ap (λ t. eqb (m .flags) 0 && not t) (eq-eqb f 0 z) ∙ and-false (eqb (m .flags) 0)) refl))
 
-  clear : c .running ≡ false → (flagsOf m width c ≡ 0) × (snapshotOf m (flagsOf m width c) c ≡ 0)
+  clear : c .aresetn ≡ false → (flagsOf m width c ≡ 0) × (snapshotOf m (flagsOf m width c) c ≡ 0)
   unfolding flagsOf snapshotOf
   clear e = (sym (no _ e refl), sym (no _ e refl))
 
-snap : (m : Monitor) (width : ℕ) (c : Clock) (cs : List Clock) → allRunning (c ∷ cs) ≡ true → m .flags ≡ 0 → (flagsOf m width c ≡ 0 → ⊥)
+snap : (m : Monitor) (width : ℕ) (c : Clock) (cs : List Clock) → allOutOfReset (c ∷ cs) ≡ true → m .flags ≡ 0 → (flagsOf m width c ≡ 0 → ⊥)
     → after m width (c ∷ cs) .snapshot ≡ flagsOf m width c
 snap m width c cs e z n =
-    let r = apart (c .running) (allRunning cs) e in
+    let r = apart (c .aresetn) (allOutOfReset cs) e in
     meanwhile (λ k. (k .flags ≡ 0 → ⊥) × (k .snapshot ≡ flagsOf m width c)) width
     (λ k d f h. (some-stay k width d f (h .0), keep k width d f (flagsOf k width d) (h .0) ∙ h .1)) (clockOf m width c) cs (r .1)
     (n, take m width c (r .0) (flagsOf m width c) z n) .1
@@ -136,8 +136,8 @@ one-clocked r s e =
       monitor = e i .monitor;
     }
 
-pub single : Single
-single = record {
+pub unique : Unique
+unique = record {
   in-range = λ c r s. one;
   fresh = λ r s. one;
   count = λ m r s. one;

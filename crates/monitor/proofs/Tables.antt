@@ -111,10 +111,10 @@ unfolding validFlags
 valid-raised flags width before c = raise-if (c .valid) flags (validTable width before c)
 
 -- the flags after a clock are those of both tables, or none
-pub flags-cases : (P : ℕ → Type 0) (m : Monitor) (width : ℕ) (c : Clock) → (c .running ≡ false → P 0) → (c .running ≡ true → P (raised m width c)) → P (flagsOf m width c)
+pub flags-cases : (P : ℕ → Type 0) (m : Monitor) (width : ℕ) (c : Clock) → (c .aresetn ≡ false → P 0) → (c .aresetn ≡ true → P (raised m width c)) → P (flagsOf m width c)
 unfolding flagsOf
 flags-cases P m width c none some =
-    cases P (c .running)
+    cases P (c .aresetn)
     (λ e. subst P (sym (held-raised _ (m .before) c ∙ ap (λ (f : ℕ). raise f (heldLines (m .before) c)) (valid-raised (m .flags) width (m .before) c))) (some e))
     none
 

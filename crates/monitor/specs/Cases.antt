@@ -9,7 +9,7 @@ use Rattle.monitor.specs.Monitor.{busClockOf}
 -- a clock out of reset with valid high
 abbrev pub onBus : ℕ → ℕ → ℕ → ℕ → Clock
 onBus burst length size address = record {
-  running = true;
+  aresetn = true;
   valid = true;
   ready = false;
   address = address;
@@ -28,7 +28,7 @@ abbrev pub quiet : Monitor
 quiet = record {
   flags = 0;
   snapshot = 0;
-  before = record { running = true; valid = false; ready = false; address = 0; length = 0; size = 0; burst = 0; cache = 0; prot = 0; qos = 0; region = 0; id = 0 };
+  before = record { aresetn = true; valid = false; ready = false; address = 0; length = 0; size = 0; burst = 0; cache = 0; prot = 0; qos = 0; region = 0; id = 0 };
 }
 
 -- the answer's number, and the flags

@@ -27,9 +27,9 @@ after m width [] = m
 after m width (c ∷ cs) = after (clockOf m width c) width cs
 
 -- no clock among them is in reset
-abbrev pub allRunning : List Clock → Bool
-allRunning [] = true
-allRunning (c ∷ cs) = c .running && allRunning cs
+abbrev pub allOutOfReset : List Clock → Bool
+allOutOfReset [] = true
+allOutOfReset (c ∷ cs) = c .aresetn && allOutOfReset cs
 
 -- the numbers of document 01's flags
 abbrev pub flagNumbers : List ℕ
@@ -49,14 +49,14 @@ pub record Claims : Type 0 where
   -- a flag is up after the rules exactly if it was before or its rule is broken
   pub raised : (n flags : ℕ) (lines : List Line) → bit n (raise flags lines) ≡ max (bit n flags) (struck n lines)
   -- a flag once up stays up until a clock in reset
-  pub stays : (m : Monitor) (width : ℕ) (cs : List Clock) (n : ℕ) → allRunning cs ≡ true → Up n (m .flags) → Up n (after m width cs .flags)
+  pub stays : (m : Monitor) (width : ℕ) (cs : List Clock) (n : ℕ) → allOutOfReset cs ≡ true → Up n (m .flags) → Up n (after m width cs .flags)
   -- a clock in reset clears all flags and the snapshot
-  pub clears : (m : Monitor) (width : ℕ) (c : Clock) → c .running ≡ false → (clockOf m width c .flags ≡ 0) × (clockOf m width c .snapshot ≡ 0)
+  pub clears : (m : Monitor) (width : ℕ) (c : Clock) → c .aresetn ≡ false → (clockOf m width c .flags ≡ 0) × (clockOf m width c .snapshot ≡ 0)
   -- the snapshot is the flags after the clock that takes them from none to any, and changes no more until reset
-  pub keeps : (m : Monitor) (width : ℕ) (c : Clock) (cs : List Clock) → allRunning (c ∷ cs) ≡ true → m .flags ≡ 0 → (flagsOf m width c ≡ 0 → ⊥)
+  pub keeps : (m : Monitor) (width : ℕ) (c : Clock) (cs : List Clock) → allOutOfReset (c ∷ cs) ≡ true → m .flags ≡ 0 → (flagsOf m width c ≡ 0 → ⊥)
       → after m width (c ∷ cs) .snapshot ≡ flagsOf m width c
   -- while no flag is up a clock out of reset leaves the snapshot
-  pub waits : (m : Monitor) (width : ℕ) (c : Clock) → c .running ≡ true → flagsOf m width c ≡ 0 → clockOf m width c .snapshot ≡ m .snapshot
+  pub waits : (m : Monitor) (width : ℕ) (c : Clock) → c .aresetn ≡ true → flagsOf m width c ≡ 0 → clockOf m width c .snapshot ≡ m .snapshot
   -- no other flag is ever up
   pub known : (width : ℕ) (cs : List Clock) (n : ℕ) → among n flagNumbers ≡ false → Down n (after freshOf width cs .flags)
   -- 40 and 51 stay 0
@@ -73,7 +73,7 @@ pub record Claims : Type 0 where
   pub lowest-some : (width : ℕ) (cs : List Clock) → lowestOf (after freshOf width cs) ≡ 0 → after freshOf width cs .flags ≡ 0
 
 -- two results that one contract allows are equal
-pub record Single : Type 0 where
+pub record Unique : Type 0 where
   pub in-range : (c : Clock) (r s : Bool) → r ≡ inRange c → s ≡ inRange c → r ≡ s
   pub fresh : (r s : Monitor) → r ≡ freshOf → s ≡ freshOf → r ≡ s
   pub count : (m : Monitor) (r s : ℕ) → r ≡ countOf m → s ≡ countOf m → r ≡ s

@@ -31,7 +31,7 @@ validTable width before clock =
     ∷ (42, fixedLong clock)
     ∷ (43, wrapBeats clock)
     ∷ (44, sizeAbove width clock)
-    ∷ (45, not (before .running))
+    ∷ (45, not (before .aresetn))
     ∷ []
 
 -- a changed field, and 56: valid now low
@@ -55,7 +55,7 @@ validFlags flags width before clock = when (clock .valid) (raise flags (validTab
 
 -- the clock before was out of reset, valid and not ready
 abbrev pub waiting : Clock → Bool
-waiting before = before .running && before .valid && not (before .ready)
+waiting before = before .aresetn && before .valid && not (before .ready)
 
 -- the flags after the rules of an address that waits; field checks hold even when valid drops
 unfoldable pub heldFlags : ℕ → Clock → Clock → ℕ

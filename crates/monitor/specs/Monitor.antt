@@ -17,17 +17,17 @@ abbrev pub freshOf : Monitor
 freshOf = record {
   flags = 0;
   snapshot = 0;
-  before = record { running = false; valid = false; ready = false; address = 0; length = 0; size = 0; burst = 0; cache = 0; prot = 0; qos = 0; region = 0; id = 0 };
+  before = record { aresetn = false; valid = false; ready = false; address = 0; length = 0; size = 0; burst = 0; cache = 0; prot = 0; qos = 0; region = 0; id = 0 };
 }
 
 -- a clock in reset clears all flags; out of reset they stay, and the broken rules' flags are raised
 unfoldable pub flagsOf : Monitor → ℕ → Clock → ℕ
 flagsOf m width c =
-    when (c .running) (heldFlags (validFlags (m .flags) width (m .before) c) (m .before) c) 0
+    when (c .aresetn) (heldFlags (validFlags (m .flags) width (m .before) c) (m .before) c) 0
 
 -- a clock in reset clears the snapshot; a clock that takes the flags from none to any takes it
 unfoldable pub snapshotOf : Monitor → ℕ → Clock → ℕ
-snapshotOf m flags c = when (c .running) (when (eqb (m .flags) 0 && not (eqb flags 0)) flags (m .snapshot)) 0
+snapshotOf m flags c = when (c .aresetn) (when (eqb (m .flags) 0 && not (eqb flags 0)) flags (m .snapshot)) 0
 
 -- the monitor's next self
 abbrev pub clockOf : Monitor → ℕ → Clock → Monitor

@@ -2,9 +2,9 @@
 ghost use mathlib.Core.Path.{_≡_};
 ghost use Rattle.monitor.specs.Clock.{inRange};
 
-// `running` is document 01's reset-high: ARESETn is high, the clock is out of reset.
+// `aresetn` is document 01's reset-high: ARESETn is high, the clock is out of reset.
 pub struct Clock {
-    pub running: bool,
+    pub aresetn: bool,
     pub valid: bool,
     pub ready: bool,
     pub address: u32,

@@ -29,14 +29,14 @@ pub fn valid_flags(flags: u64, width: u32, before: Clock, clock: Clock) -> u64
         | flag(42, rules::fixed_long(clock))
         | flag(43, rules::wrap_beats(clock))
         | flag(44, rules::size_above(width, clock))
-        | flag(45, !before.running)
+        | flag(45, !before.aresetn)
 }
 
 // What has to stay as it was while an address waits for its ready.
 pub fn held_flags(flags: u64, before: Clock, clock: Clock) -> u64
     ensures { λ r. ⌜ r ≡ heldFlags flags before clock ⌝ }
 {
-    if !(before.running & before.valid & !before.ready) {
+    if !(before.aresetn & before.valid & !before.ready) {
         return flags;
     }
     flags

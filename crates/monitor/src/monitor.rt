@@ -29,7 +29,7 @@ impl Monitor {
         ensures { λ r. ⌜ r ≡ freshOf ⌝ }
     {
         let before = Clock {
-            running: false,
+            aresetn: false,
             valid: false,
             ready: false,
             address: 0,
@@ -54,7 +54,7 @@ impl Monitor {
         requires { ⌜ inRange clock ≡ true ⌝ }
         ensures { λ r. ⌜ r ≡ flagsOf self width clock ⌝ }
     {
-        if !clock.running {
+        if !clock.aresetn {
             return 0;
         }
         let before = self.before;
@@ -66,7 +66,7 @@ impl Monitor {
     fn snapshot_after(self, flags: u64, clock: Clock) -> u64
         ensures { λ r. ⌜ r ≡ snapshotOf self flags clock ⌝ }
     {
-        if !clock.running {
+        if !clock.aresetn {
             return 0;
         }
         if (self.flags == 0) & (flags != 0) {
@@ -121,7 +121,7 @@ fn refuse(answer: Answer, monitor: Monitor) -> Clocked
 pub fn bus_clock(monitor: Monitor, width: u32, beats: u32, clock: Clock) -> Clocked
     ensures { λ r. ⌜ seen r ≡ busClockOf monitor width beats clock ⌝ }
 {
-    if !settings::legal(width, beats) {
+    if !settings::legal(settings::Settings { width, beats }) {
         return refuse(Answer::Settings, monitor);
     }
     if !clock.in_range() {

@@ -4,6 +4,7 @@ use cut::word_start;
 use kit::answer::Answer;
 use kit::limits::ADDRESS_END;
 use kit::limits::MOST_BYTES;
+use kit::settings::Settings;
 use kit::settings::legal;
 ghost use mathlib.Core.Path.{_≡_};
 ghost use mathlib.Core.Bool.{true};
@@ -57,7 +58,7 @@ fn out_of_range(start: u32, count: u32) -> bool
 pub fn measure(width: u32, beats: u32, start: u32, count: u32, room: usize) -> Planned
     ensures { λ r. ⌜ measured r ≡ measureOf width beats start count room ⌝ }
 {
-    if !legal(width, beats) {
+    if !legal(Settings { width, beats }) {
         return Planned {
             answer: Answer::Settings,
             bursts: 0,

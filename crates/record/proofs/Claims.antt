@@ -138,5 +138,5 @@ claims = record {
   settled = λ s more at first room.
       kept s more at longest first room (omega (arith, body-most (kindAt s at))) (size-most s at first (kindAt s at));
   dropped = dropped-same;
-  single = λ s at first r t e f. e ∙ sym f;
+  unique = λ s at first r t e f. e ∙ sym f;
 }

@@ -92,7 +92,7 @@ module _ (s t : List ℕ) (p q m : ℕ) (agree : (i : ℕ) → i < m → getD s 
       let region = agree 13 (omega arith) in
       let id = word-field 14 (omega arith) in
       λ j. record {
-        running = clockAt s p bits .running;
+        aresetn = clockAt s p bits .aresetn;
         valid = clockAt s p bits .valid;
         ready = clockAt s p bits .ready;
         address = address j;

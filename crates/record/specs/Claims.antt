@@ -69,4 +69,4 @@ pub record Claims : Type 0 where
   pub dropped : (s : List ℕ) (at : ℕ) (first : Bool) → at ≤ length s
       → readingOf s at first ≡ shifted at (readingOf (drop at s) 0 first)
   -- two results that the contract of `read` allows are equal
-  pub single : (s : List ℕ) (at : ℕ) (first : Bool) (r t : Reading) → r ≡ readingOf s at first → t ≡ readingOf s at first → r ≡ t
+  pub unique : (s : List ℕ) (at : ℕ) (first : Bool) (r t : Reading) → r ≡ readingOf s at first → t ≡ readingOf s at first → r ≡ t

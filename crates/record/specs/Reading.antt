@@ -16,7 +16,7 @@ use Rattle.record.specs.Mark.{Kind, CF, MM, SW, WR, RD, ST, AR, unknown,
 -- the clock of the AR record at `at`: bits 0 reset-high, 1 valid, 2 ready; a byte a field; id and address
 abbrev pub clockAt : List ℕ → ℕ → ℕ → Clock
 clockAt s at bits = record {
-  running = eqb (bits % 2) 1;
+  aresetn = eqb (bits % 2) 1;
   valid = eqb (bits / 2 % 2) 1;
   ready = eqb (bits / 4 % 2) 1;
   address = wordAt s (at + 18);

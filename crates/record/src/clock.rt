@@ -25,7 +25,7 @@ fn fields(input: &[u8], at: usize, bits: u32) -> Clock
     ensures { λ r. ⌜ r ≡ clockAt (now (input .entry)) at bits ⌝ }
 {
     Clock {
-        running: bits % 2 == 1,
+        aresetn: bits % 2 == 1,
         valid: bits / 2 % 2 == 1,
         ready: bits / 4 % 2 == 1,
         address: word::load(input, at + 18),

@@ -7,7 +7,7 @@ use Rattle.kit.proofs.Numbers.{number-tells}
 use Rattle.registers.specs.declared.read.Reading.{Reading}
 use Rattle.registers.specs.declared.write.Written.{Written}
 use Rattle.registers.specs.Read.{upperHalves, Value, readSeen}
-use Rattle.registers.specs.Write.{Wrote, writeSeen}
+use Rattle.registers.specs.Write.{AfterWrite, writeSeen}
 
 -- what holds at each upper half holds at an offset among them
 pub upper-half : (P : ℕ → Type 0) → P 0x0C → P 0x14 → P 0x1C → P 0x24 → (offset : ℕ) → OneOf upperHalves offset → P offset
@@ -24,9 +24,9 @@ read-unique {r} {q} e f =
     let values = ap (λ (y : Value). y .value) same in
     λ i. record { answer = answers i; value = values i }
 
-pub write-unique : {r q : Written} {x : Wrote} → writeSeen r ≡ x → writeSeen q ≡ x → r ≡ q
+pub write-unique : {r q : Written} {x : AfterWrite} → writeSeen r ≡ x → writeSeen q ≡ x → r ≡ q
 write-unique {r} {q} e f =
     let same = e ∙ sym f in
-    let answers = number-tells (ap (λ (y : Wrote). y .answer) same) in
-    let engines = ap (λ (y : Wrote). y .engine) same in
+    let answers = number-tells (ap (λ (y : AfterWrite). y .answer) same) in
+    let engines = ap (λ (y : AfterWrite). y .engine) same in
     λ i. record { answer = answers i; engine = engines i }

@@ -8,46 +8,46 @@ use lib.Dec.{eqb, leb}
 use borrow.Author.Tests.{not-false, eqb-false, leb-true, le-leb}
 use Rattle.kit.specs.Choice.{both, either}
 use Rattle.kit.specs.Limits.{mostBytes, addressEnd}
-use Rattle.kit.specs.Settings.{among, legalSettings}
+use Rattle.kit.specs.Settings.{among, legalOf}
 use Rattle.kit.proofs.Choice.{cases, never}
-use Rattle.engine.specs.declared.state.Simple.{Simple}
-use Rattle.engine.specs.declared.state.Engine.{Engine}
-use Rattle.engine.specs.declared.state.Phase.{Phase}
-use Rattle.engine.specs.declared.state.Phase.the-variants.{Idle, Fetch, Move, Update}
-use Rattle.engine.specs.State.{freshOf, busyOf, errorSetOf, transferFits, phaseFits, wellFormedOf, withControl, withChain, withSimple}
+use Rattle.state.specs.declared.engine.Simple.{Simple}
+use Rattle.state.specs.declared.engine.Engine.{Engine}
+use Rattle.state.specs.declared.engine.Phase.{Phase}
+use Rattle.state.specs.declared.engine.Phase.the-variants.{Idle, Fetch, Move, Update}
+use Rattle.state.specs.State.{freshOf, busyOf, errorSetOf, transferFits, phaseFits, wellFormedOf, withControl, withPointers, withSimple}
 use Rattle.registers.specs.Read.{upperHalves}
-use Rattle.engine.specs.Bits.{bit, pointer}
-use Rattle.registers.specs.Write.{Wrote, done, ignored, differ, guardOf, writeControlOf, writeStatusOf, tailWritten, countWritten, registerWrittenOf, writeOf}
-use Rattle.engine.proofs.WellFormed.{WellFormed, Parts, well-formed, parts, joined, aligned-test, not-both, transfer-fits-test, fresh-well-formed}
+use Rattle.state.specs.Bits.{bit, pointer}
+use Rattle.registers.specs.Write.{AfterWrite, done, ignored, differ, guardOf, writeControlOf, writeStatusOf, tailWritten, countWritten, registerWrittenOf, writeOf}
+use Rattle.state.proofs.WellFormed.{WellFormed, Parts, well-formed, parts, joined, aligned-test, not-both, transfer-fits-test, fresh-well-formed}
 
 -- what a write of v that is not refused makes of a state
 data Change (s : Engine) (v : ℕ) : Engine → Type 0 where
   nothing : Change s v s
   reset : Change s v (freshOf (s .settings))
-  control : both (busyOf (s .phase)) (differ (bit 3 v) (s .control .chain)) ≡ false
-      → Change s v (withControl s (record { chain = bit 3 v; complete = bit 12 v; error = bit 14 v }))
+  control : both (busyOf (s .phase)) (differ (bit 3 v) (s .control .sgmode)) ≡ false
+      → Change s v (withControl s (record { sgmode = bit 3 v; iocen = bit 12 v; erren = bit 14 v }))
   status : Change s v (writeStatusOf s v .engine)
-  current : Change s v (withChain s (record { current = pointer v; tail = s .chain .tail; next = pointer v; held = s .chain .held }))
-  tail : errorSetOf (s .status .bit) ≡ false → s .control .chain ≡ true → Change s v (tailWritten s v)
-  source : Change s v (withSimple s (record { source = v; destination = s .simple .destination; count = s .simple .count }))
-  destination : Change s v (withSimple s (record { source = s .simple .source; destination = v; count = s .simple .count }))
-  count : errorSetOf (s .status .bit) ≡ false → busyOf (s .phase) ≡ false → Change s v (countWritten s (v % 2 ^ 23))
+  current : Change s v (withPointers s (record { current = pointer v; tail = s .pointers .tail; next = pointer v; heldnext = s .pointers .heldnext }))
+  tail : errorSetOf (s .status .fault) ≡ false → s .control .sgmode ≡ true → Change s v (tailWritten s v)
+  source : Change s v (withSimple s (record { sa = v; da = s .simple .da; btt = s .simple .btt }))
+  destination : Change s v (withSimple s (record { sa = s .simple .sa; da = v; btt = s .simple .btt }))
+  count : errorSetOf (s .status .fault) ≡ false → busyOf (s .phase) ≡ false → Change s v (countWritten s (v % 2 ^ 23))
 
 either-false : (t u : Bool) → either t u ≡ false → t ≡ false
 either-false true u e = e
 either-false false u e = refl
 
 -- what holds of each refusal and of each change holds of the write
-module _ (s : Engine) (v : ℕ) (P : Wrote → Type 0) (refused : (n : ℕ) → 0 < n → P (ignored n s)) (changed : (t : Engine) → Change s v t → P (done t)) where
-  guarded : (barred : Bool) (next : Engine) → (errorSetOf (s .status .bit) ≡ false → barred ≡ false → Change s v next) → P (guardOf s barred next)
+module _ (s : Engine) (v : ℕ) (P : AfterWrite → Type 0) (refused : (n : ℕ) → 0 < n → P (ignored n s)) (changed : (t : Engine) → Change s v t → P (done t)) where
+  guarded : (barred : Bool) (next : Engine) → (errorSetOf (s .status .fault) ≡ false → barred ≡ false → Change s v next) → P (guardOf s barred next)
   guarded barred next f =
-      cases P (errorSetOf (s .status .bit)) (λ e. refused 5 (omega arith))
+      cases P (errorSetOf (s .status .fault)) (λ e. refused 5 (omega arith))
       (λ e. cases P barred (λ b. refused 4 (omega arith)) (λ b. changed next (f e b)))
 
   controlled : P (writeControlOf s v)
   controlled =
       cases P (bit 2 v) (λ e. changed _ reset)
-      (λ e. cases P (both (busyOf (s .phase)) (differ (bit 3 v) (s .control .chain))) (λ b. refused 4 (omega arith)) (λ b. changed _ (control b)))
+      (λ e. cases P (both (busyOf (s .phase)) (differ (bit 3 v) (s .control .sgmode))) (λ b. refused 4 (omega arith)) (λ b. changed _ (control b)))
 
   registered : (offset : ℕ) → P (registerWrittenOf s offset v)
   unfolding registerWrittenOf
@@ -55,15 +55,15 @@ module _ (s : Engine) (v : ℕ) (P : Wrote → Type 0) (refused : (n : ℕ) → 
       cases P (eqb offset 0x00) (λ e. controlled)
       (λ e. cases P (eqb offset 0x04) (λ e. changed _ status)
       (λ e. cases P (eqb offset 0x08) (λ e. guarded (busyOf (s .phase)) _ (λ _ _. current))
-      (λ e. cases P (eqb offset 0x10) (λ e. guarded (not (s .control .chain)) _ (λ f b. tail f (not-false _ b)))
+      (λ e. cases P (eqb offset 0x10) (λ e. guarded (not (s .control .sgmode)) _ (λ f b. tail f (not-false _ b)))
       (λ e. cases P (eqb offset 0x18) (λ e. guarded (busyOf (s .phase)) _ (λ _ _. source))
       (λ e. cases P (eqb offset 0x20) (λ e. guarded (busyOf (s .phase)) _ (λ _ _. destination))
-      (λ e. cases P (eqb offset 0x28) (λ e. guarded (either (busyOf (s .phase)) (s .control .chain)) _ (λ f b. count f (either-false (busyOf (s .phase)) (s .control .chain) b)))
+      (λ e. cases P (eqb offset 0x28) (λ e. guarded (either (busyOf (s .phase)) (s .control .sgmode)) _ (λ f b. count f (either-false (busyOf (s .phase)) (s .control .sgmode) b)))
       (λ e. cases P (among offset upperHalves) (λ e. changed s nothing) (λ e. refused 3 (omega arith)))))))))
 
   written : (offset : ℕ) → P (writeOf s offset v)
   written offset =
-      cases P (legalSettings (s .settings .width) (s .settings .beats))
+      cases P (legalOf (s .settings))
       (λ e. cases P (wellFormedOf s) (λ e. registered offset) (λ e. refused 9 (omega arith)))
       (λ e. refused 1 (omega arith))
 
@@ -81,17 +81,17 @@ settings-stay s v t (count _ _) = cases (λ (x : Engine). x .settings ≡ s .set
 
 pub write-keeps-settings : (s : Engine) (offset v : ℕ) → writeOf s offset v .engine .settings ≡ s .settings
 write-keeps-settings s offset v =
-    written s v (λ (w : Wrote). w .engine .settings ≡ s .settings) (λ _ _. refl) (settings-stay s v) offset
+    written s v (λ (w : AfterWrite). w .engine .settings ≡ s .settings) (λ _ _. refl) (settings-stay s v) offset
 
 -- a refused write leaves the state
 pub write-refused : (s : Engine) (offset v : ℕ) {n : ℕ} → writeOf s offset v .answer ≡ n → (n ≡ 0 → ⊥) → writeOf s offset v .engine ≡ s
 write-refused s offset v {n} e f =
-    written s v (λ (w : Wrote). w .answer ≡ n → w .engine ≡ s) (λ _ _ _. refl) (λ _ _ g. absurd (f (sym g))) offset e
+    written s v (λ (w : AfterWrite). w .answer ≡ n → w .engine ≡ s) (λ _ _ _. refl) (λ _ _ g. absurd (f (sym g))) offset e
 
 -- SA and DA are 32-bit registers
 pub record WordsOf (x : Simple) : Type 0 where
-  pub source-word : x .source < addressEnd
-  pub destination-word : x .destination < addressEnd
+  pub source-word : x .sa < addressEnd
+  pub destination-word : x .da < addressEnd
 
 abbrev pub Words : Engine → Type 0
 Words s = WordsOf (s .simple)
@@ -110,7 +110,7 @@ words-stay s v h w t (count _ _) =
     (λ _. record { source-word = w .source-word; destination-word = w .destination-word })
 
 pub write-keeps-words : (s : Engine) (offset v : ℕ) → v < 2 ^ 32 → Words s → Words (writeOf s offset v .engine)
-write-keeps-words s offset v h w = written s v (λ (x : Wrote). Words (x .engine)) (λ _ _. w) (words-stay s v h w) offset
+write-keeps-words s offset v h w = written s v (λ (x : AfterWrite). Words (x .engine)) (λ _ _. w) (words-stay s v h w) offset
 
 -- a mode that stays as it is while busy still fits the phase
 mode-fits : (p : Phase) (new old : Bool) → both (busyOf p) (differ new old) ≡ false → phaseFits p old ≡ true → phaseFits p new ≡ true
@@ -132,8 +132,8 @@ module _ (s : Engine) (v : ℕ) (w : Words s) (e : wellFormedOf s ≡ true) wher
   p = parts s e
 
   -- without an error bit a state may be busy
-  no-error : errorSetOf (s .status .bit) ≡ false → not (both (errorSetOf (s .status .bit)) true) ≡ true
-  no-error f = not-both (errorSetOf (s .status .bit)) true (λ x. absurd (never (sym f ∙ x)))
+  no-error : errorSetOf (s .status .fault) ≡ false → not (both (errorSetOf (s .status .fault)) true) ≡ true
+  no-error f = not-both (errorSetOf (s .status .fault)) true (λ x. absurd (never (sym f ∙ x)))
 
   kept : leb (v % 2 ^ 23) mostBytes ≡ true
   kept = le-leb (v % 2 ^ 23) mostBytes (omega (arith, mod-lt v {m = 2 ^ 23} (omega arith)))
@@ -141,9 +141,9 @@ module _ (s : Engine) (v : ℕ) (w : Words s) (e : wellFormedOf s ≡ true) wher
   positive : eqb (v % 2 ^ 23) 0 ≡ false → 0 < v % 2 ^ 23
   positive z = let nonzero = eqb-false (v % 2 ^ 23) 0 z in omega arith
 
-  started : eqb (v % 2 ^ 23) 0 ≡ false → transferFits (record { source = s .simple .source; destination = s .simple .destination; total = v % 2 ^ 23; moved = 0 }) ≡ true
+  started : eqb (v % 2 ^ 23) 0 ≡ false → transferFits (record { source = s .simple .sa; destination = s .simple .da; total = v % 2 ^ 23; moved = 0 }) ≡ true
   started z =
-      transfer-fits-test (record { source = s .simple .source; destination = s .simple .destination; total = v % 2 ^ 23; moved = 0 })
+      transfer-fits-test (record { source = s .simple .sa; destination = s .simple .da; total = v % 2 ^ 23; moved = 0 })
       (record { moved-less = positive z; total-small = leb-true _ _ kept; source-inside = omega arith; destination-inside = omega arith })
 
   parts-stay : (t : Engine) → Change s v t → Parts t
@@ -151,10 +151,10 @@ module _ (s : Engine) (v : ℕ) (w : Words s) (e : wellFormedOf s ≡ true) wher
   parts-stay t nothing = p
   parts-stay t reset = parts _ (fresh-well-formed (s .settings))
   parts-stay t (control d) =
-      record { pointers = p .pointers; count = p .count; error = p .error; phase = mode-fits (s .phase) (bit 3 v) (s .control .chain) d (p .phase) }
+      record { pointers = p .pointers; count = p .count; error = p .error; phase = mode-fits (s .phase) (bit 3 v) (s .control .sgmode) d (p .phase) }
   parts-stay t status = parts _ e
   parts-stay t current = record {
-    pointers = aligned-test (pointer v) (s .chain .tail) (pointer v) (s .chain .held) (pointer-aligned v) (h .tail-aligned) (pointer-aligned v) (h .held-aligned);
+    pointers = aligned-test (pointer v) (s .pointers .tail) (pointer v) (s .pointers .heldnext) (pointer-aligned v) (h .tail-aligned) (pointer-aligned v) (h .held-aligned);
     count = p .count;
     error = p .error;
     phase = p .phase;
@@ -162,13 +162,13 @@ module _ (s : Engine) (v : ℕ) (w : Words s) (e : wellFormedOf s ≡ true) wher
   parts-stay t (tail f m) =
       cases Parts (busyOf (s .phase))
       (λ _. record {
-        pointers = aligned-test (s .chain .current) (pointer v) (s .chain .next) (s .chain .held) (h .current-aligned) (pointer-aligned v) (h .next-aligned) (h .held-aligned);
+        pointers = aligned-test (s .pointers .current) (pointer v) (s .pointers .next) (s .pointers .heldnext) (h .current-aligned) (pointer-aligned v) (h .next-aligned) (h .held-aligned);
         count = p .count;
         error = p .error;
         phase = p .phase;
       })
       (λ _. record {
-        pointers = aligned-test (s .chain .next) (pointer v) (s .chain .next) (s .chain .held) (h .next-aligned) (pointer-aligned v) (h .next-aligned) (h .held-aligned);
+        pointers = aligned-test (s .pointers .next) (pointer v) (s .pointers .next) (s .pointers .heldnext) (h .next-aligned) (pointer-aligned v) (h .next-aligned) (h .held-aligned);
         count = p .count;
         error = no-error f;
         phase = m;
@@ -183,4 +183,4 @@ module _ (s : Engine) (v : ℕ) (w : Words s) (e : wellFormedOf s ≡ true) wher
 -- a write keeps the state well formed, also where it is refused
 pub write-keeps-well-formed : (s : Engine) (offset v : ℕ) → Words s → wellFormedOf s ≡ true → wellFormedOf (writeOf s offset v .engine) ≡ true
 write-keeps-well-formed s offset v w e =
-    written s v (λ (x : Wrote). wellFormedOf (x .engine) ≡ true) (λ _ _. e) (λ t c. joined t (parts-stay s v w e t c)) offset
+    written s v (λ (x : AfterWrite). wellFormedOf (x .engine) ≡ true) (λ _ _. e) (λ t c. joined t (parts-stay s v w e t c)) offset

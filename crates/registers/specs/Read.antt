@@ -5,11 +5,11 @@ use mathlib.Core.List.{List, [], _∷_}
 use lib.Dec.{eqb}
 use Rattle.kit.specs.Choice.{when}
 use Rattle.kit.specs.Answer.{numberOf}
-use Rattle.kit.specs.Settings.{among, legalSettings}
-use Rattle.engine.specs.declared.state.Engine.{Engine}
+use Rattle.kit.specs.Settings.{among, legalOf}
+use Rattle.state.specs.declared.engine.Engine.{Engine}
 use Rattle.registers.specs.declared.read.Reading.{Reading}
-use Rattle.engine.specs.State.{busyOf, errorSetOf, wellFormedOf}
-use Rattle.engine.specs.Bits.{errorBitOf}
+use Rattle.state.specs.State.{busyOf, errorSetOf, wellFormedOf}
+use Rattle.state.specs.Bits.{errorBitOf}
 
 -- a bit's value where it is set
 abbrev pub bitIf : Bool → ℕ → ℕ
@@ -17,14 +17,14 @@ bitIf set value = when set value 0
 
 -- CDMACR: bit 1 and bits 23..16 read 1, each as a field; bits 3, 12 and 14 are kept
 abbrev pub controlOf : Engine → ℕ
-controlOf s = 0x00010002 + bitIf (s .control .chain) (2 ^ 3) + bitIf (s .control .complete) (2 ^ 12) + bitIf (s .control .error) (2 ^ 14)
+controlOf s = 0x00010002 + bitIf (s .control .sgmode) (2 ^ 3) + bitIf (s .control .iocen) (2 ^ 12) + bitIf (s .control .erren) (2 ^ 14)
 
 -- CDMASR: bit 3 and bits 23..16 read 1; bit 1 Idle, the error bits, 12 IOC_Irq, 14 Err_Irq
 abbrev pub statusOf : Engine → ℕ
 statusOf s =
-    0x00010008 + bitIf (not (busyOf (s .phase))) (2 ^ 1) + bitIf (errorSetOf (s .status .bit)) (2 ^ errorBitOf (s .status .bit))
-    + bitIf (s .status .complete) (2 ^ 12)
-    + bitIf (s .status .error) (2 ^ 14)
+    0x00010008 + bitIf (not (busyOf (s .phase))) (2 ^ 1) + bitIf (errorSetOf (s .status .fault)) (2 ^ errorBitOf (s .status .fault))
+    + bitIf (s .status .ioc) (2 ^ 12)
+    + bitIf (s .status .err) (2 ^ 14)
 
 -- an answer's number, and the value beside it
 pub record Value : Type 0 where
@@ -46,17 +46,17 @@ unfoldable pub registerOf : Engine → ℕ → Value
 registerOf s offset =
     when (eqb offset 0x00) (gives (controlOf s))
     (when (eqb offset 0x04) (gives (statusOf s))
-    (when (eqb offset 0x08) (gives (s .chain .current))
-    (when (eqb offset 0x10) (gives (s .chain .tail))
-    (when (eqb offset 0x18) (gives (s .simple .source))
-    (when (eqb offset 0x20) (gives (s .simple .destination))
-    (when (eqb offset 0x28) (gives (s .simple .count))
+    (when (eqb offset 0x08) (gives (s .pointers .current))
+    (when (eqb offset 0x10) (gives (s .pointers .tail))
+    (when (eqb offset 0x18) (gives (s .simple .sa))
+    (when (eqb offset 0x20) (gives (s .simple .da))
+    (when (eqb offset 0x28) (gives (s .simple .btt))
     (when (among offset upperHalves) (gives 0) (noValue 3))))))))
 
 -- answers 1, 9 and 3 in their order, else the register's value
 abbrev pub readOf : Engine → ℕ → Value
 readOf s offset =
-    when (legalSettings (s .settings .width) (s .settings .beats))
+    when (legalOf (s .settings))
     (when (wellFormedOf s) (registerOf s offset) (noValue 9))
     (noValue 1)
 

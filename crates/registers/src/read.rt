@@ -1,14 +1,14 @@
 // Document 01, "Registers": reading a register.
-use engine::state::Engine;
-use engine::state::ErrorBit;
-use engine::state::busy;
-use engine::state::well_formed;
 use kit::answer::Answer;
 use kit::settings::legal;
+use state::engine::Engine;
+use state::engine::ErrorBit;
+use state::engine::busy;
+use state::engine::well_formed;
 ghost use mathlib.Core.Path.{_≡_};
 ghost use Prim.Native.Nat.{_≤_, _^_};
-ghost use Rattle.engine.specs.State.{errorSetOf};
-ghost use Rattle.engine.specs.Bits.{errorBitOf};
+ghost use Rattle.state.specs.State.{errorSetOf};
+ghost use Rattle.state.specs.Bits.{errorBitOf};
 ghost use Rattle.registers.specs.Read.{bitIf, controlOf, statusOf, registerOf, readOf, readSeen, gives};
 
 // The answer, and the value beside it, 0 beside a refusal.
@@ -42,12 +42,12 @@ fn error_value(bit: ErrorBit) -> u32
 {
     match bit {
         ErrorBit::Clear => 0,
-        ErrorBit::DmaInternal => 0x010,
-        ErrorBit::DmaSlave => 0x020,
-        ErrorBit::DmaDecode => 0x040,
-        ErrorBit::SgInternal => 0x100,
-        ErrorBit::SgSlave => 0x200,
-        ErrorBit::SgDecode => 0x400,
+        ErrorBit::DmaIntErr => 0x010,
+        ErrorBit::DmaSlvErr => 0x020,
+        ErrorBit::DmaDecErr => 0x040,
+        ErrorBit::SgIntErr => 0x100,
+        ErrorBit::SgSlvErr => 0x200,
+        ErrorBit::SgDecErr => 0x400,
     }
 }
 
@@ -55,9 +55,9 @@ fn read_control(engine: Engine) -> u32
     ensures { λ r. ⌜ r ≡ controlOf engine ⌝ }
 {
     CONTROL_ALWAYS
-        + bit_if(engine.control.chain, SG_MODE)
-        + bit_if(engine.control.complete, COMPLETE)
-        + bit_if(engine.control.error, ERROR)
+        + bit_if(engine.control.sgmode, SG_MODE)
+        + bit_if(engine.control.iocen, COMPLETE)
+        + bit_if(engine.control.erren, ERROR)
 }
 
 fn read_status(engine: Engine) -> u32
@@ -65,12 +65,12 @@ fn read_status(engine: Engine) -> u32
 {
     let phase = engine.phase;
     let status = engine.status;
-    let bit = status.bit;
+    let fault = status.fault;
     STATUS_ALWAYS
         + bit_if(!busy(phase), IDLE)
-        + error_value(bit)
-        + bit_if(status.complete, COMPLETE)
-        + bit_if(status.error, ERROR)
+        + error_value(fault)
+        + bit_if(status.ioc, COMPLETE)
+        + bit_if(status.err, ERROR)
 }
 
 fn given(value: u32) -> Reading
@@ -89,11 +89,11 @@ fn read_register(engine: Engine, offset: u32) -> Reading
     match offset {
         0x00 => given(read_control(engine)),
         0x04 => given(read_status(engine)),
-        0x08 => given(engine.chain.current),
-        0x10 => given(engine.chain.tail),
-        0x18 => given(engine.simple.source),
-        0x20 => given(engine.simple.destination),
-        0x28 => given(engine.simple.count),
+        0x08 => given(engine.pointers.current),
+        0x10 => given(engine.pointers.tail),
+        0x18 => given(engine.simple.sa),
+        0x20 => given(engine.simple.da),
+        0x28 => given(engine.simple.btt),
         0x0c | 0x14 | 0x1c | 0x24 => given(0),
         0x01..=0x03
         | 0x05..=0x07
@@ -116,7 +116,7 @@ fn read_register(engine: Engine, offset: u32) -> Reading
 pub fn read(engine: Engine, offset: u32) -> Reading
     ensures { λ r. ⌜ readSeen r ≡ readOf engine offset ⌝ }
 {
-    if !legal(engine.settings.width, engine.settings.beats) {
+    if !legal(engine.settings) {
         return Reading {
             answer: Answer::Settings,
             value: 0,

@@ -1,23 +1,23 @@
 // Document 01, "Registers": writing a register.
-use engine::state::Chain;
-use engine::state::Control;
-use engine::state::Engine;
-use engine::state::ErrorBit;
-use engine::state::Phase;
-use engine::state::Simple;
-use engine::state::Status;
-use engine::state::Transfer;
-use engine::state::busy;
-use engine::state::error_set;
-use engine::state::fresh;
-use engine::state::well_formed;
 use kit::answer::Answer;
 use kit::logic::both;
 use kit::logic::either;
 use kit::settings::legal;
+use state::engine::Control;
+use state::engine::Engine;
+use state::engine::ErrorBit;
+use state::engine::Phase;
+use state::engine::Pointers;
+use state::engine::Simple;
+use state::engine::Status;
+use state::engine::Transfer;
+use state::engine::busy;
+use state::engine::error_set;
+use state::engine::fresh;
+use state::engine::well_formed;
 ghost use mathlib.Core.Path.{_≡_};
 ghost use Rattle.kit.specs.Answer.{numberOf};
-ghost use Rattle.engine.specs.Bits.{pointer as pointerOf};
+ghost use Rattle.state.specs.Bits.{pointer as pointerOf};
 ghost use Rattle.registers.specs.Write.{done as doneOf, ignored as ignoredOf, differ as differOf, guardOf, writeControlOf, writeStatusOf, writeCurrentOf, tailWritten, writeTailOf, writeSourceOf, writeDestinationOf, countWritten, writeCountOf, registerWrittenOf, writeOf, writeSeen};
 
 // The answer, and the state after the write.
@@ -60,8 +60,8 @@ fn guard(engine: Engine, barred: bool, next: Engine) -> Written
     ensures { λ r. ⌜ writeSeen r ≡ guardOf engine barred next ⌝ }
 {
     let status = engine.status;
-    let bit = status.bit;
-    if error_set(bit) {
+    let fault = status.fault;
+    if error_set(fault) {
         return ignored(Answer::ErrorSet, engine);
     }
     if barred {
@@ -77,15 +77,15 @@ fn write_control(engine: Engine, value: u32) -> Written
         let settings = engine.settings;
         return done(fresh(settings));
     }
-    let chain = value / 8 % 2 == 1;
+    let sgmode = value / 8 % 2 == 1;
     let phase = engine.phase;
-    if both(busy(phase), differ(chain, engine.control.chain)) {
+    if both(busy(phase), differ(sgmode, engine.control.sgmode)) {
         return ignored(Answer::Busy, engine);
     }
     let control = Control {
-        chain,
-        complete: value / 4096 % 2 == 1,
-        error: value / 16384 % 2 == 1,
+        sgmode,
+        iocen: value / 4096 % 2 == 1,
+        erren: value / 16384 % 2 == 1,
     };
     done(Engine { control, ..engine })
 }
@@ -95,8 +95,8 @@ fn write_status(engine: Engine, value: u32) -> Written
 {
     let status = engine.status;
     let status = Status {
-        complete: both(value / 4096 % 2 != 1, status.complete),
-        error: both(value / 16384 % 2 != 1, status.error),
+        ioc: both(value / 4096 % 2 != 1, status.ioc),
+        err: both(value / 16384 % 2 != 1, status.err),
         ..status
     };
     done(Engine { status, ..engine })
@@ -106,14 +106,14 @@ fn write_current(engine: Engine, value: u32) -> Written
     ensures { λ r. ⌜ writeSeen r ≡ writeCurrentOf engine value ⌝ }
 {
     let current = pointer(value);
-    let chain = engine.chain;
-    let chain = Chain {
+    let pointers = engine.pointers;
+    let pointers = Pointers {
         current,
         next: current,
-        ..chain
+        ..pointers
     };
     let phase = engine.phase;
-    guard(engine, busy(phase), Engine { chain, ..engine })
+    guard(engine, busy(phase), Engine { pointers, ..engine })
 }
 
 // A tail that is written while busy is only replaced; written while idle it starts the chain.
@@ -121,19 +121,19 @@ fn with_tail(engine: Engine, value: u32) -> Engine
     ensures { λ r. ⌜ r ≡ tailWritten engine value ⌝ }
 {
     let tail = pointer(value);
-    let chain = engine.chain;
+    let pointers = engine.pointers;
     let phase = engine.phase;
     if busy(phase) {
-        let chain = Chain { tail, ..chain };
-        return Engine { chain, ..engine };
+        let pointers = Pointers { tail, ..pointers };
+        return Engine { pointers, ..engine };
     }
-    let chain = Chain {
-        current: chain.next,
+    let pointers = Pointers {
+        current: pointers.next,
         tail,
-        ..chain
+        ..pointers
     };
     Engine {
-        chain,
+        pointers,
         phase: Phase::Fetch,
         ..engine
     }
@@ -142,7 +142,7 @@ fn with_tail(engine: Engine, value: u32) -> Engine
 fn write_tail(engine: Engine, value: u32) -> Written
     ensures { λ r. ⌜ writeSeen r ≡ writeTailOf engine value ⌝ }
 {
-    guard(engine, !engine.control.chain, with_tail(engine, value))
+    guard(engine, !engine.control.sgmode, with_tail(engine, value))
 }
 
 fn write_source(engine: Engine, value: u32) -> Written
@@ -150,7 +150,7 @@ fn write_source(engine: Engine, value: u32) -> Written
 {
     let simple = engine.simple;
     let simple = Simple {
-        source: value,
+        sa: value,
         ..simple
     };
     let phase = engine.phase;
@@ -162,7 +162,7 @@ fn write_destination(engine: Engine, value: u32) -> Written
 {
     let simple = engine.simple;
     let simple = Simple {
-        destination: value,
+        da: value,
         ..simple
     };
     let phase = engine.phase;
@@ -174,12 +174,15 @@ fn with_count(engine: Engine, count: u32) -> Engine
     ensures { λ r. ⌜ r ≡ countWritten engine count ⌝ }
 {
     let simple = engine.simple;
-    let simple = Simple { count, ..simple };
+    let simple = Simple {
+        btt: count,
+        ..simple
+    };
     if count == 0 {
         let status = engine.status;
         let status = Status {
-            bit: ErrorBit::DmaInternal,
-            error: true,
+            fault: ErrorBit::DmaIntErr,
+            err: true,
             ..status
         };
         return Engine {
@@ -189,8 +192,8 @@ fn with_count(engine: Engine, count: u32) -> Engine
         };
     }
     let transfer = Transfer {
-        source: simple.source,
-        destination: simple.destination,
+        source: simple.sa,
+        destination: simple.da,
         total: count,
         moved: 0,
     };
@@ -205,7 +208,7 @@ fn write_count(engine: Engine, value: u32) -> Written
     ensures { λ r. ⌜ writeSeen r ≡ writeCountOf engine value ⌝ }
 {
     let phase = engine.phase;
-    let barred = either(busy(phase), engine.control.chain);
+    let barred = either(busy(phase), engine.control.sgmode);
     guard(engine, barred, with_count(engine, value % 8388608))
 }
 
@@ -240,7 +243,7 @@ fn write_register(engine: Engine, offset: u32, value: u32) -> Written
 pub fn write(engine: Engine, offset: u32, value: u32) -> Written
     ensures { λ r. ⌜ writeSeen r ≡ writeOf engine offset value ⌝ }
 {
-    if !legal(engine.settings.width, engine.settings.beats) {
+    if !legal(engine.settings) {
         return ignored(Answer::Settings, engine);
     }
     if !well_formed(engine) {

@@ -3,21 +3,21 @@ use mathlib.Core.Path.{_≡_}
 use Prim.Native.Nat.{ℕ, _+_, _-_, _*_, _/_, _≤_, _<_}
 use mathlib.Core.Bool.{true}
 use native.Mathlib.Omega.{arith}
-use Rattle.kit.specs.Settings.{legalSettings}
+use Rattle.kit.specs.Settings.{legalOf}
 use Rattle.kit.proofs.Legal.{legal}
 use Rattle.cut.specs.Cut.{page, reach}
 use Rattle.cut.proofs.Reach.{ends}
-use Rattle.engine.specs.declared.state.Engine.{Engine}
-use Rattle.engine.specs.declared.state.Transfer.{Transfer}
-use Rattle.engine.specs.State.{transferFits}
-use Rattle.engine.proofs.WellFormed.{transfer-fits}
+use Rattle.state.specs.declared.engine.Engine.{Engine}
+use Rattle.state.specs.declared.engine.Transfer.{Transfer}
+use Rattle.state.specs.State.{transferFits}
+use Rattle.state.proofs.WellFormed.{transfer-fits}
 use Rattle.steps.specs.Step.{stopOf, Carriable}
 
 reach-page : (w l a : ℕ) → reach w l a ≤ (a / page + 1) * page
 unfolding reach
 reach-page w l a = omega arith
 
-module _ (s : Engine) (t : Transfer) (e : legalSettings (s .settings .width) (s .settings .beats) ≡ true) (f : transferFits t ≡ true) where
+module _ (s : Engine) (t : Transfer) (e : legalOf (s .settings) ≡ true) (f : transferFits t ≡ true) where
   pub record Stops : Type 0 where
     pub past : t .destination + t .moved < stopOf s t
     pub within : stopOf s t ≤ t .destination + t .total

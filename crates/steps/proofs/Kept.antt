@@ -11,7 +11,7 @@ use lib.Dec.{eqb}
 use borrow.Author.Tests.{eqb-false}
 use Rattle.kit.specs.Choice.{when}
 use Rattle.kit.specs.Limits.{mostBytes, mostMemory, addressEnd}
-use Rattle.kit.specs.Settings.{legalSettings}
+use Rattle.kit.specs.Settings.{legalOf}
 use Rattle.kit.specs.Word.{wordAt, bytesOf}
 use Rattle.kit.proofs.Choice.{cases, never}
 use Rattle.memory.specs.declared.window.Window.{Window}
@@ -20,20 +20,20 @@ use Rattle.memory.specs.declared.verdict.Verdict.the-variants.{Okay, Slave as S
 use Rattle.memory.specs.Verdict.{groupOf, worse}
 use Rattle.memory.proofs.Groups.{group-okay-fits}
 use Rattle.memory.proofs.Verdicts.{worse-okay}
-use Rattle.engine.specs.declared.state.Settings.{Settings}
-use Rattle.engine.specs.declared.state.Simple.{Simple}
-use Rattle.engine.specs.declared.state.Status.{Status}
-use Rattle.engine.specs.declared.state.Engine.{Engine}
-use Rattle.engine.specs.declared.state.Transfer.{Transfer}
-use Rattle.engine.specs.declared.state.ErrorBit.{ErrorBit}
-use Rattle.engine.specs.declared.state.ErrorBit.the-variants.{SgInternal, SgSlave, SgDecode, DmaInternal, DmaSlave, DmaDecode}
-use Rattle.engine.specs.declared.state.Outcome.{Outcome}
-use Rattle.engine.specs.declared.state.Outcome.the-variants.{Complete, Internal, Slave, Decode}
-use Rattle.engine.specs.declared.state.Phase.{Phase}
-use Rattle.engine.specs.declared.state.Phase.the-variants.{Idle, Fetch, Move, Update}
-use Rattle.engine.specs.State.{busyOf, errorSetOf, phaseFits, transferFits, wellFormedOf, withStatus, withPhase}
-use Rattle.engine.specs.Bits.{bit}
-use Rattle.engine.proofs.WellFormed.{transfer-fits, transfer-fits-test, WellFormed, well-formed, well-formed-test}
+use Rattle.kit.specs.declared.settings.Settings.{Settings}
+use Rattle.state.specs.declared.engine.Simple.{Simple}
+use Rattle.state.specs.declared.engine.Status.{Status}
+use Rattle.state.specs.declared.engine.Engine.{Engine}
+use Rattle.state.specs.declared.engine.Transfer.{Transfer}
+use Rattle.state.specs.declared.engine.ErrorBit.{ErrorBit}
+use Rattle.state.specs.declared.engine.ErrorBit.the-variants.{SgIntErr, SgSlvErr, SgDecErr, DmaIntErr, DmaSlvErr, DmaDecErr}
+use Rattle.state.specs.declared.engine.Outcome.{Outcome}
+use Rattle.state.specs.declared.engine.Outcome.the-variants.{Complete, Internal, Slave, Decode}
+use Rattle.state.specs.declared.engine.Phase.{Phase}
+use Rattle.state.specs.declared.engine.Phase.the-variants.{Idle, Fetch, Move, Update}
+use Rattle.state.specs.State.{busyOf, errorSetOf, phaseFits, transferFits, wellFormedOf, withStatus, withPhase}
+use Rattle.state.specs.Bits.{bit}
+use Rattle.state.proofs.WellFormed.{transfer-fits, transfer-fits-test, WellFormed, well-formed, well-formed-test}
 use Rattle.steps.specs.declared.event.Advanced.{Advanced}
 use Rattle.steps.specs.Step.{haltedOf, describedOf, takeOf, fetchBy, endedOf, stopOf, moveBy, moveOf, completedOf, settledOf, updateBy, statusWordOf, advanceBy, advanceOf}
 use Rattle.steps.proofs.Bursts.{stops}
@@ -46,12 +46,12 @@ word-fits : (m : List ℕ) → Bytes m → (at : ℕ) → wordAt m at < addressE
 word-fits m bytes at = omega (arith, bytes at, bytes (at + 1), bytes (at + 2), bytes (at + 3))
 
 -- a busy state has no error bit
-no-error : (s : Engine) → WellFormed s → busyOf (s .phase) ≡ true → errorSetOf (s .status .bit) ≡ true → ⊥
+no-error : (s : Engine) → WellFormed s → busyOf (s .phase) ≡ true → errorSetOf (s .status .fault) ≡ true → ⊥
 no-error s h busy e = never (sym (h .error-idle e) ∙ busy)
 
 -- a state of the same pointers and registers whose status and phase go together
-pair-well : (s : Engine) (status : Status) (p : Phase) → WellFormed s → (errorSetOf (status .bit) ≡ true → busyOf p ≡ false)
-    → phaseFits p (s .control .chain) ≡ true → WellFormed (withPhase (withStatus s status) p)
+pair-well : (s : Engine) (status : Status) (p : Phase) → WellFormed s → (errorSetOf (status .fault) ≡ true → busyOf p ≡ false)
+    → phaseFits p (s .control .sgmode) ≡ true → WellFormed (withPhase (withStatus s status) p)
 pair-well s status p h idle fits = record {
   current-aligned = h .current-aligned;
   tail-aligned = h .tail-aligned;
@@ -63,10 +63,10 @@ pair-well s status p h idle fits = record {
 }
 
 halted-well : (s : Engine) (b : ErrorBit) → WellFormed s → WellFormed (haltedOf s b)
-halted-well s b h = pair-well s (record { bit = b; complete = s .status .complete; error = true }) Idle h (λ _. refl) refl
+halted-well s b h = pair-well s (record { fault = b; ioc = s .status .ioc; err = true }) Idle h (λ _. refl) refl
 
 -- a busy state that goes on to a phase that fits
-phase-well : (s : Engine) (p : Phase) → WellFormed s → busyOf (s .phase) ≡ true → phaseFits p (s .control .chain) ≡ true → WellFormed (withPhase s p)
+phase-well : (s : Engine) (p : Phase) → WellFormed s → busyOf (s .phase) ≡ true → phaseFits p (s .control .sgmode) ≡ true → WellFormed (withPhase s p)
 phase-well s p h busy fits = pair-well s (s .status) p h (λ e. absurd (no-error s h busy e)) fits
 
 described-fits : (source destination total : ℕ) (chain : Bool) → chain ≡ true → source < addressEnd → destination < addressEnd → total ≤ mostBytes
@@ -77,15 +77,15 @@ described-fits source destination total chain e hs hd ht =
     transfer-fits-test (record { source = source; destination = destination; total = total; moved = 0 })
     (record { moved-less = omega (arith, nonzero); total-small = ht; source-inside = omega arith; destination-inside = omega arith }))
 
-module _ (s : Engine) (m : List ℕ) (windows : List Window) (legals : legalSettings (s .settings .width) (s .settings .beats) ≡ true)
+module _ (s : Engine) (m : List ℕ) (windows : List Window) (legals : legalOf (s .settings) ≡ true)
     (small : length m ≤ mostMemory) (bytes : Bytes m) (h : WellFormed s) where
   fetch-well : s .phase ≡ Fetch → (v : Verdict) → WellFormed (fetchBy s m v .engine)
   unfolding takeOf
   fetch-well e Okay =
       let busy = ap busyOf e in
-      let chain : s .control .chain ≡ true = subst (λ (p : Phase). phaseFits p (s .control .chain) ≡ true) e (h .phase-fits) in
-      let at = s .chain .current in
-      cases (λ (r : Advanced). WellFormed (r .engine)) (bit 31 (wordAt m (at + 0x1C))) (λ _. halted-well s SgInternal h)
+      let chain : s .control .sgmode ≡ true = subst (λ (p : Phase). phaseFits p (s .control .sgmode) ≡ true) e (h .phase-fits) in
+      let at = s .pointers .current in
+      cases (λ (r : Advanced). WellFormed (r .engine)) (bit 31 (wordAt m (at + 0x1C))) (λ _. halted-well s SgIntErr h)
       (λ _. record {
         current-aligned = h .current-aligned;
         tail-aligned = h .tail-aligned;
@@ -93,19 +93,19 @@ module _ (s : Engine) (m : List ℕ) (windows : List Window) (legals : legalSett
         held-aligned = mul-mod-left (wordAt m at / 64) 64;
         count-small = h .count-small;
         error-idle = λ x. absurd (no-error s h busy x);
-        phase-fits = described-fits (wordAt m (at + 0x08)) (wordAt m (at + 0x10)) (wordAt m (at + 0x18) % 2 ^ 23) (s .control .chain) chain
+        phase-fits = described-fits (wordAt m (at + 0x08)) (wordAt m (at + 0x10)) (wordAt m (at + 0x18) % 2 ^ 23) (s .control .sgmode) chain
             (word-fits m bytes (at + 0x08)) (word-fits m bytes (at + 0x10)) (omega arith);
       })
-  fetch-well e SlaveError = halted-well s SgSlave h
-  fetch-well e DecodeError = halted-well s SgDecode h
+  fetch-well e SlaveError = halted-well s SgSlvErr h
+  fetch-well e DecodeError = halted-well s SgDecErr h
 
   ended-well : busyOf (s .phase) ≡ true → WellFormed (endedOf s)
   ended-well busy =
-      cases WellFormed (s .control .chain) (λ e. phase-well s (Update Complete) h busy e)
-      (λ _. pair-well s (record { bit = s .status .bit; complete = true; error = s .status .error }) Idle h (λ _. refl) refl)
+      cases WellFormed (s .control .sgmode) (λ e. phase-well s (Update Complete) h busy e)
+      (λ _. pair-well s (record { fault = s .status .fault; ioc = true; err = s .status .err }) Idle h (λ _. refl) refl)
 
-  faulted-well : busyOf (s .phase) ≡ true → (o : Outcome) (b : ErrorBit) → WellFormed (when (s .control .chain) (withPhase s (Update o)) (haltedOf s b))
-  faulted-well busy o b = cases WellFormed (s .control .chain) (λ e. phase-well s (Update o) h busy e) (λ _. halted-well s b h)
+  faulted-well : busyOf (s .phase) ≡ true → (o : Outcome) (b : ErrorBit) → WellFormed (when (s .control .sgmode) (withPhase s (Update o)) (haltedOf s b))
+  faulted-well busy o b = cases WellFormed (s .control .sgmode) (λ e. phase-well s (Update o) h busy e) (λ _. halted-well s b h)
 
   move-well : (t : Transfer) → s .phase ≡ Move t → WellFormed (moveOf s t m windows .engine)
   move-well t e = go (worse (g from) (g at)) refl
@@ -126,7 +126,7 @@ module _ (s : Engine) (m : List ℕ) (windows : List Window) (legals : legalSett
       busy = ap busyOf e
 
       fits : transferFits t ≡ true
-      fits = subst (λ (p : Phase). phaseFits p (s .control .chain) ≡ true) e (h .phase-fits)
+      fits = subst (λ (p : Phase). phaseFits p (s .control .sgmode) ≡ true) e (h .phase-fits)
 
       go : (v : Verdict) → worse (g from) (g at) ≡ v → WellFormed (moveBy s t m from at n v .engine)
       go Okay okay =
@@ -141,11 +141,11 @@ module _ (s : Engine) (m : List ℕ) (windows : List Window) (legals : legalSett
           phase-well s (Move (record { source = t .source; destination = t .destination; total = t .total; moved = t .moved + n })) h busy
           (transfer-fits-test (record { source = t .source; destination = t .destination; total = t .total; moved = t .moved + n })
           (record { moved-less = omega (arith, short); total-small = f .total-small; source-inside = omega arith; destination-inside = omega arith })))
-      go SlaveError _ = faulted-well busy Slave DmaSlave
-      go DecodeError _ = faulted-well busy Decode DmaDecode
+      go SlaveError _ = faulted-well busy Slave DmaSlvErr
+      go DecodeError _ = faulted-well busy Decode DmaDecErr
 
-  completed-well : s .control .chain ≡ true → busyOf (s .phase) ≡ true → WellFormed (completedOf s)
-  completed-well chain busy = cases WellFormed (eqb (s .chain .current) (s .chain .tail))
+  completed-well : s .control .sgmode ≡ true → busyOf (s .phase) ≡ true → WellFormed (completedOf s)
+  completed-well chain busy = cases WellFormed (eqb (s .pointers .current) (s .pointers .tail))
       (λ _. record {
         current-aligned = h .current-aligned;
         tail-aligned = h .tail-aligned;
@@ -171,24 +171,24 @@ module _ (s : Engine) (m : List ℕ) (windows : List Window) (legals : legalSett
       busy : busyOf (s .phase) ≡ true
       busy = ap busyOf e
 
-      chain : s .control .chain ≡ true
-      chain = subst (λ (p : Phase). phaseFits p (s .control .chain) ≡ true) e (h .phase-fits)
+      chain : s .control .sgmode ≡ true
+      chain = subst (λ (p : Phase). phaseFits p (s .control .sgmode) ≡ true) e (h .phase-fits)
 
       go : (o : Outcome) → WellFormed (settledOf s o)
       go Complete = completed-well chain busy
-      go Internal = halted-well s DmaInternal h
-      go Slave = halted-well s DmaSlave h
-      go Decode = halted-well s DmaDecode h
-  update-well o e SlaveError = halted-well s SgSlave h
-  update-well o e DecodeError = halted-well s SgDecode h
+      go Internal = halted-well s DmaIntErr h
+      go Slave = halted-well s DmaSlvErr h
+      go Decode = halted-well s DmaDecErr h
+  update-well o e SlaveError = halted-well s SgSlvErr h
+  update-well o e DecodeError = halted-well s SgDecErr h
 
   phase-kept : (p : Phase) → s .phase ≡ p → WellFormed (advanceBy s m windows p .engine)
   phase-kept Idle e = h
-  phase-kept Fetch e = fetch-well e (groupOf (length m) windows (s .chain .current) 32)
+  phase-kept Fetch e = fetch-well e (groupOf (length m) windows (s .pointers .current) 32)
   phase-kept (Move t) e = move-well t e
-  phase-kept (Update o) e = update-well o e (groupOf (length m) windows (s .chain .current + 0x1C) 4)
+  phase-kept (Update o) e = update-well o e (groupOf (length m) windows (s .pointers .current + 0x1C) 4)
 
-pub advance-well-formed : (s : Engine) (m : List ℕ) (windows : List Window) → legalSettings (s .settings .width) (s .settings .beats) ≡ true
+pub advance-well-formed : (s : Engine) (m : List ℕ) (windows : List Window) → legalOf (s .settings) ≡ true
     → length m ≤ mostMemory → Bytes m → wellFormedOf s ≡ true → wellFormedOf (advanceOf s m windows .engine) ≡ true
 unfolding advanceOf
 advance-well-formed s m windows legals small bytes e =
@@ -206,17 +206,17 @@ advance-lasting s m windows = go (s .phase)
     P x = lasting x ≡ lasting s
 
     fetched : (v : Verdict) → P (fetchBy s m v .engine)
-    fetched Okay = cases (λ (r : Advanced). P (r .engine)) (bit 31 (wordAt m (s .chain .current + 0x1C))) (λ _. refl) (λ _. refl)
+    fetched Okay = cases (λ (r : Advanced). P (r .engine)) (bit 31 (wordAt m (s .pointers .current + 0x1C))) (λ _. refl) (λ _. refl)
     fetched SlaveError = refl
     fetched DecodeError = refl
 
     moved : (t : Transfer) (from at n : ℕ) (v : Verdict) → P (moveBy s t m from at n v .engine)
-    moved t from at n Okay = cases P (eqb (t .moved + n) (t .total)) (λ _. cases P (s .control .chain) (λ _. refl) (λ _. refl)) (λ _. refl)
-    moved t from at n SlaveError = cases P (s .control .chain) (λ _. refl) (λ _. refl)
-    moved t from at n DecodeError = cases P (s .control .chain) (λ _. refl) (λ _. refl)
+    moved t from at n Okay = cases P (eqb (t .moved + n) (t .total)) (λ _. cases P (s .control .sgmode) (λ _. refl) (λ _. refl)) (λ _. refl)
+    moved t from at n SlaveError = cases P (s .control .sgmode) (λ _. refl) (λ _. refl)
+    moved t from at n DecodeError = cases P (s .control .sgmode) (λ _. refl) (λ _. refl)
 
     settled : (o : Outcome) → P (settledOf s o)
-    settled Complete = cases P (eqb (s .chain .current) (s .chain .tail)) (λ _. refl) (λ _. refl)
+    settled Complete = cases P (eqb (s .pointers .current) (s .pointers .tail)) (λ _. refl) (λ _. refl)
     settled Internal = refl
     settled Slave = refl
     settled Decode = refl
@@ -228,12 +228,12 @@ advance-lasting s m windows = go (s .phase)
 
     go : (p : Phase) → P (advanceBy s m windows p .engine)
     go Idle = refl
-    go Fetch = fetched (groupOf (length m) windows (s .chain .current) 32)
+    go Fetch = fetched (groupOf (length m) windows (s .pointers .current) 32)
     go (Move t) =
         moved t (t .source + t .moved) (t .destination + t .moved) (stopOf s t - (t .destination + t .moved))
         (worse (groupOf (length m) windows (t .source + t .moved) (stopOf s t - (t .destination + t .moved)))
         (groupOf (length m) windows (t .destination + t .moved) (stopOf s t - (t .destination + t .moved))))
-    go (Update o) = updated o (groupOf (length m) windows (s .chain .current + 0x1C) 4)
+    go (Update o) = updated o (groupOf (length m) windows (s .pointers .current + 0x1C) 4)
 
 pub advance-settings : (s : Engine) (m : List ℕ) (windows : List Window) → advanceOf s m windows .engine .settings ≡ s .settings
 advance-settings s m windows = ap (λ (k : Settings × Simple). k .0) (advance-lasting s m windows)
@@ -251,7 +251,7 @@ advance-length s m windows = go (s .phase)
     moved t from at n DecodeError = refl
 
     updated : (o : Outcome) (v : Verdict) → length (updateBy s o m v .memory) ≡ length m
-    updated o Okay = length-sets m (s .chain .current + 0x1C) (bytesOf (statusWordOf o))
+    updated o Okay = length-sets m (s .pointers .current + 0x1C) (bytesOf (statusWordOf o))
     updated o SlaveError = refl
     updated o DecodeError = refl
 
@@ -262,4 +262,4 @@ advance-length s m windows = go (s .phase)
         moved t (t .source + t .moved) (t .destination + t .moved) (stopOf s t - (t .destination + t .moved))
         (worse (groupOf (length m) windows (t .source + t .moved) (stopOf s t - (t .destination + t .moved)))
         (groupOf (length m) windows (t .destination + t .moved) (stopOf s t - (t .destination + t .moved))))
-    go (Update o) = updated o (groupOf (length m) windows (s .chain .current + 0x1C) 4)
+    go (Update o) = updated o (groupOf (length m) windows (s .pointers .current + 0x1C) 4)

@@ -6,10 +6,10 @@ use mathlib.Core.List.{List}
 use native.Mathlib.Omega.{arith}
 use lib.ListN.{length}
 use Rattle.kit.specs.Limits.{mostMemory}
-use Rattle.kit.specs.Settings.{legalSettings}
+use Rattle.kit.specs.Settings.{legalOf}
 use Rattle.memory.specs.declared.window.Window.{Window}
-use Rattle.engine.specs.declared.state.Settings.{Settings}
-use Rattle.engine.specs.State.{busyOf, wellFormedOf}
+use Rattle.kit.specs.declared.settings.Settings.{Settings}
+use Rattle.state.specs.State.{busyOf, wellFormedOf}
 use Rattle.steps.specs.Step.{Next, advanceOf}
 use Rattle.steps.specs.Run.{Walk, ended, walkFrom}
 use Rattle.steps.proofs.Kept.{Bytes, advance-settings, advance-length, advance-well-formed}
@@ -37,7 +37,7 @@ module _ (i : ℕ) (r : Next) (windows : List Window) where
 -- a walk in its midst, `steps` of at most `most` steps taken, that ends as `final` says
 pub record Walking (most steps : ℕ) (r : Next) (windows : List Window) (final : Walk) : Type 0 where
   pub within : steps ≤ most
-  pub legal : legalSettings (r .engine .settings .width) (r .engine .settings .beats) ≡ true
+  pub legal : legalOf (r .engine .settings) ≡ true
   pub well : wellFormedOf (r .engine) ≡ true
   pub small : length (r .memory) ≤ mostMemory
   pub bytes : Bytes (r .memory)
@@ -53,7 +53,7 @@ module _ {most steps : ℕ} {r : Next} {windows : List Window} {final : Walk} (w
       let settings = ap (λ (x : Next). x .engine .settings) e ∙ advance-settings (r .engine) (r .memory) windows in
       record {
         within = omega arith;
-        legal = subst (λ (x : Settings). legalSettings (x .width) (x .beats) ≡ true) (sym settings) (w .legal);
+        legal = subst (λ (x : Settings). legalOf x ≡ true) (sym settings) (w .legal);
         well = subst (λ (x : Next). wellFormedOf (x .engine) ≡ true) (sym e)
             (advance-well-formed (r .engine) (r .memory) windows (w .legal) (w .small) (w .bytes) (w .well));
         small = subst (λ (n : ℕ). n ≤ mostMemory) (sym (ap (λ (x : Next). length (x .memory)) e ∙ advance-length (r .engine) (r .memory) windows)) (w .small);
@@ -70,7 +70,7 @@ module _ {most steps : ℕ} {r : Next} {windows : List Window} {final : Walk} (w
   walking-idle e = sym (walk-idle steps r windows (most - steps) e) ∙ w .goes
 
 -- a walk at its start
-pub walking-begin : (most : ℕ) (r : Next) (windows : List Window) → legalSettings (r .engine .settings .width) (r .engine .settings .beats) ≡ true
+pub walking-begin : (most : ℕ) (r : Next) (windows : List Window) → legalOf (r .engine .settings) ≡ true
     → wellFormedOf (r .engine) ≡ true → length (r .memory) ≤ mostMemory → Bytes (r .memory)
     → Walking most 0 r windows (walkFrom most 0 r windows)
 walking-begin most r windows legal well small bytes =

@@ -7,11 +7,11 @@ use lib.Dec.{eqb, ltb}
 use Rattle.kit.specs.Choice.{when}
 use Rattle.kit.specs.Answer.{numberOf}
 use Rattle.kit.specs.Limits.{mostMemory, mostWindows}
-use Rattle.kit.specs.Settings.{legalSettings}
+use Rattle.kit.specs.Settings.{legalOf}
 use Rattle.memory.specs.declared.window.Window.{Window}
 use Rattle.memory.specs.Windows.{windowsOf}
-use Rattle.engine.specs.declared.state.Engine.{Engine}
-use Rattle.engine.specs.State.{busyOf, wellFormedOf}
+use Rattle.state.specs.declared.engine.Engine.{Engine}
+use Rattle.state.specs.State.{busyOf, wellFormedOf}
 use Rattle.steps.specs.declared.event.Event.{Event}
 use Rattle.steps.specs.declared.event.Event.the-variants.{None}
 use Rattle.steps.specs.declared.run.Stepped.{Stepped}
@@ -22,7 +22,7 @@ use Rattle.steps.specs.Step.{Next, advanceOf}
 -- step and run: 1, 2, 6, 9, the first that fits, by the memory's bytes and the number of windows
 unfoldable pub refusalOf : Engine → ℕ → ℕ → ℕ
 refusalOf s size windows =
-    when (legalSettings (s .settings .width) (s .settings .beats))
+    when (legalOf (s .settings))
     (when (ltb mostMemory size) 2 (when (ltb mostWindows windows) 6 (when (wellFormedOf s) 0 9)))
     1
 
@@ -50,37 +50,37 @@ abbrev pub walked : Walked → List ℕ → Walk
 walked r m = record { event = r .event; steps = r .steps; engine = r .engine; memory = m }
 
 -- a step: its answer's number, event, state and memory; a refusal leaves state and memory as they were, and no event
-pub record Step : Type 0 where
+pub record AfterStep : Type 0 where
   pub answer : ℕ
   pub event : Event
   pub engine : Engine
   pub memory : List ℕ
 
-abbrev pub stepped : ℕ → Next → Step
-stepped n r = record { answer = n; event = r .event; engine = r .engine; memory = r .memory }
+abbrev pub stepAnswer : ℕ → Next → AfterStep
+stepAnswer n r = record { answer = n; event = r .event; engine = r .engine; memory = r .memory }
 
-unfoldable pub stepOf : Engine → List ℕ → List ℕ → Step
+unfoldable pub stepOf : Engine → List ℕ → List ℕ → AfterStep
 stepOf s m windows =
     let n = refusalOf s (length m) (length windows / 2) in
-    stepped n (when (eqb n 0) (advanceOf s m (windowsOf windows)) (begun s m))
+    stepAnswer n (when (eqb n 0) (advanceOf s m (windowsOf windows)) (begun s m))
 
-abbrev pub stepSeen : Stepped → List ℕ → Step
+abbrev pub stepSeen : Stepped → List ℕ → AfterStep
 stepSeen r m = record { answer = numberOf (r .answer); event = r .event; engine = r .engine; memory = m }
 
 -- a run: its answer's number, the steps taken, state and memory
-pub record Run : Type 0 where
+pub record AfterRun : Type 0 where
   pub answer : ℕ
   pub steps : ℕ
   pub engine : Engine
   pub memory : List ℕ
 
-abbrev pub ran : ℕ → Walk → Run
-ran n w = record { answer = n; steps = w .steps; engine = w .engine; memory = w .memory }
+abbrev pub runAnswer : ℕ → Walk → AfterRun
+runAnswer n w = record { answer = n; steps = w .steps; engine = w .engine; memory = w .memory }
 
-unfoldable pub runOf : ℕ → Engine → List ℕ → List ℕ → Run
+unfoldable pub runOf : ℕ → Engine → List ℕ → List ℕ → AfterRun
 runOf most s m windows =
     let n = refusalOf s (length m) (length windows / 2) in
-    ran n (when (eqb n 0) (walkFrom most 0 (begun s m) (windowsOf windows)) (ended 0 (begun s m)))
+    runAnswer n (when (eqb n 0) (walkFrom most 0 (begun s m) (windowsOf windows)) (ended 0 (begun s m)))
 
-abbrev pub runSeen : Ran → List ℕ → Run
+abbrev pub runSeen : Ran → List ℕ → AfterRun
 runSeen r m = record { answer = numberOf (r .answer); steps = r .steps; engine = r .engine; memory = m }

@@ -14,17 +14,17 @@ use Rattle.memory.specs.declared.verdict.Verdict.{Verdict}
 use Rattle.memory.specs.declared.verdict.Verdict.the-variants.{Okay, Slave as SlaveError, Decode as DecodeError}
 use Rattle.memory.specs.Verdict.{groupOf, worse}
 use Rattle.memory.specs.Burst.{longest, copied}
-use Rattle.engine.specs.declared.state.Engine.{Engine}
-use Rattle.engine.specs.declared.state.Transfer.{Transfer}
-use Rattle.engine.specs.declared.state.ErrorBit.{ErrorBit}
-use Rattle.engine.specs.declared.state.ErrorBit.the-variants.{DmaInternal, DmaSlave, DmaDecode, SgInternal, SgSlave, SgDecode}
-use Rattle.engine.specs.declared.state.Outcome.{Outcome}
-use Rattle.engine.specs.declared.state.Outcome.the-variants.{Complete, Internal, Slave, Decode}
-use Rattle.engine.specs.declared.state.Phase.{Phase}
-use Rattle.engine.specs.declared.state.Phase.the-variants.{Idle, Fetch, Move, Update}
-use Rattle.engine.specs.State.{withStatus, withChain, withPhase}
-use Rattle.engine.specs.Bits.{errorBitOf}
-use Rattle.engine.specs.Bits.{bit, pointer}
+use Rattle.state.specs.declared.engine.Engine.{Engine}
+use Rattle.state.specs.declared.engine.Transfer.{Transfer}
+use Rattle.state.specs.declared.engine.ErrorBit.{ErrorBit}
+use Rattle.state.specs.declared.engine.ErrorBit.the-variants.{DmaIntErr, DmaSlvErr, DmaDecErr, SgIntErr, SgSlvErr, SgDecErr}
+use Rattle.state.specs.declared.engine.Outcome.{Outcome}
+use Rattle.state.specs.declared.engine.Outcome.the-variants.{Complete, Internal, Slave, Decode}
+use Rattle.state.specs.declared.engine.Phase.{Phase}
+use Rattle.state.specs.declared.engine.Phase.the-variants.{Idle, Fetch, Move, Update}
+use Rattle.state.specs.State.{withStatus, withPointers, withPhase}
+use Rattle.state.specs.Bits.{errorBitOf}
+use Rattle.state.specs.Bits.{bit, pointer}
 use Rattle.steps.specs.declared.event.Event.{Event}
 use Rattle.steps.specs.declared.event.Event.the-variants.{None, Fetch as Fetched, Move as Moved, Fault, Update as Updated, Halt}
 use Rattle.steps.specs.declared.event.Advanced.{Advanced}
@@ -40,11 +40,11 @@ next r m = record { event = r .event; engine = r .engine; memory = m }
 
 -- halt: Idle and Err_Irq set, current kept
 abbrev pub haltedOf : Engine → ErrorBit → Engine
-haltedOf s b = withPhase (withStatus s (record { bit = b; complete = s .status .complete; error = true })) Idle
+haltedOf s b = withPhase (withStatus s (record { fault = b; ioc = s .status .ioc; err = true })) Idle
 
 -- a fetch or update that ends without going on or writing
 abbrev pub haltOf : Engine → ErrorBit → Advanced
-haltOf s b = record { event = Halt (s .chain .current) (errorBitOf b); engine = haltedOf s b }
+haltOf s b = record { event = Halt (s .pointers .current) (errorBitOf b); engine = haltedOf s b }
 
 -- BTT 0 goes to update with DMAIntErr, and any other count to move
 abbrev pub describedOf : ℕ → ℕ → ℕ → Phase
@@ -54,11 +54,11 @@ describedOf source destination total =
 -- a descriptor by its words; status bit 31 already set: SGIntErr
 unfoldable pub takeOf : Engine → ℕ → ℕ → ℕ → ℕ → ℕ → Advanced
 takeOf s next source destination control status =
-    when (bit 31 status) (haltOf s SgInternal)
+    when (bit 31 status) (haltOf s SgIntErr)
     (record {
-      event = Fetched (s .chain .current);
+      event = Fetched (s .pointers .current);
       engine = withPhase
-          (withChain s (record { current = s .chain .current; tail = s .chain .tail; next = s .chain .next; held = pointer next }))
+          (withPointers s (record { current = s .pointers .current; tail = s .pointers .tail; next = s .pointers .next; heldnext = pointer next }))
           (describedOf source destination (control % 2 ^ 23));
     })
 
@@ -68,18 +68,18 @@ takenOf s m at = takeOf s (wordAt m at) (wordAt m (at + 0x08)) (wordAt m (at + 0
 
 -- fetch: decode error SGDecErr, slave error SGSlvErr
 abbrev pub fetchBy : Engine → List ℕ → Verdict → Advanced
-fetchBy s m Okay = takenOf s m (s .chain .current)
-fetchBy s m SlaveError = haltOf s SgSlave
-fetchBy s m DecodeError = haltOf s SgDecode
+fetchBy s m Okay = takenOf s m (s .pointers .current)
+fetchBy s m SlaveError = haltOf s SgSlvErr
+fetchBy s m DecodeError = haltOf s SgDecErr
 
 abbrev pub fetchOf : Engine → List ℕ → List Window → Advanced
-fetchOf s m windows = fetchBy s m (groupOf (length m) windows (s .chain .current) 32)
+fetchOf s m windows = fetchBy s m (groupOf (length m) windows (s .pointers .current) 32)
 
 -- after the last burst: chain mode goes to update, simple mode ends in that same step and sets IOC_Irq
 abbrev pub endedOf : Engine → Engine
 endedOf s =
-    when (s .control .chain) (withPhase s (Update Complete))
-    (withPhase (withStatus s (record { bit = s .status .bit; complete = true; error = s .status .error })) Idle)
+    when (s .control .sgmode) (withPhase s (Update Complete))
+    (withPhase (withStatus s (record { fault = s .status .fault; ioc = true; err = s .status .err })) Idle)
 
 -- the state after `moved` bytes of the transfer
 abbrev pub movedOnOf : Engine → Transfer → ℕ → Engine
@@ -95,7 +95,7 @@ movedOf s t start bytes = record { event = Moved (record { start = start; bytes 
 abbrev pub faultedOf : Engine → ℕ → Outcome → ErrorBit → Advanced
 faultedOf s destination outcome b = record {
   event = Fault destination (errorBitOf b);
-  engine = when (s .control .chain) (withPhase s (Update outcome)) (haltedOf s b);
+  engine = when (s .control .sgmode) (withPhase s (Update outcome)) (haltedOf s b);
 }
 
 -- the end of the first burst of the cut of what remains, from destination + moved
@@ -105,8 +105,8 @@ stopOf s t = burstEnd (s .settings .width) (s .settings .beats) (t .destination 
 -- move, by what the burst's source and destination bytes answer together: all source bytes are read before any is written
 abbrev pub moveBy : Engine → Transfer → List ℕ → ℕ → ℕ → ℕ → Verdict → Next
 moveBy s t m from at bytes Okay = next (movedOf s t at bytes) (copied m from at bytes)
-moveBy s t m from at bytes SlaveError = next (faultedOf s at Slave DmaSlave) m
-moveBy s t m from at bytes DecodeError = next (faultedOf s at Decode DmaDecode) m
+moveBy s t m from at bytes SlaveError = next (faultedOf s at Slave DmaSlvErr) m
+moveBy s t m from at bytes DecodeError = next (faultedOf s at Decode DmaDecErr) m
 
 -- the move of `bytes` bytes to `at`
 abbrev pub carryOf : Engine → Transfer → List ℕ → List Window → ℕ → ℕ → ℕ → Next
@@ -134,30 +134,30 @@ statusWordOf Decode = 2 ^ 30
 -- a good update sets IOC_Irq and next = held next; if current equals tail, idle, else current = next and fetch
 abbrev pub completedOf : Engine → Engine
 completedOf s =
-    let marked = withStatus s (record { bit = s .status .bit; complete = true; error = s .status .error }) in
-    when (eqb (s .chain .current) (s .chain .tail))
-    (withPhase (withChain marked (record { current = s .chain .current; tail = s .chain .tail; next = s .chain .held; held = s .chain .held })) Idle)
-    (withPhase (withChain marked (record { current = s .chain .held; tail = s .chain .tail; next = s .chain .held; held = s .chain .held })) Fetch)
+    let marked = withStatus s (record { fault = s .status .fault; ioc = true; err = s .status .err }) in
+    when (eqb (s .pointers .current) (s .pointers .tail))
+    (withPhase (withPointers marked (record { current = s .pointers .current; tail = s .pointers .tail; next = s .pointers .heldnext; heldnext = s .pointers .heldnext })) Idle)
+    (withPhase (withPointers marked (record { current = s .pointers .heldnext; tail = s .pointers .tail; next = s .pointers .heldnext; heldnext = s .pointers .heldnext })) Fetch)
 
 -- a bad one sets the CDMASR bit and halts
 abbrev pub settledOf : Engine → Outcome → Engine
 settledOf s Complete = completedOf s
-settledOf s Internal = haltedOf s DmaInternal
-settledOf s Slave = haltedOf s DmaSlave
-settledOf s Decode = haltedOf s DmaDecode
+settledOf s Internal = haltedOf s DmaIntErr
+settledOf s Slave = haltedOf s DmaSlvErr
+settledOf s Decode = haltedOf s DmaDecErr
 
 -- an update that writes its word, good or bad
 abbrev pub updatedOf : Engine → Outcome → ℕ → Advanced
-updatedOf s outcome word = record { event = Updated (s .chain .current) word; engine = settledOf s outcome }
+updatedOf s outcome word = record { event = Updated (s .pointers .current) word; engine = settledOf s outcome }
 
 -- update, by what the status word at current + 1C answers
 abbrev pub updateBy : Engine → Outcome → List ℕ → Verdict → Next
-updateBy s outcome m Okay = next (updatedOf s outcome (statusWordOf outcome)) (sets m (s .chain .current + 0x1C) (bytesOf (statusWordOf outcome)))
-updateBy s outcome m SlaveError = next (haltOf s SgSlave) m
-updateBy s outcome m DecodeError = next (haltOf s SgDecode) m
+updateBy s outcome m Okay = next (updatedOf s outcome (statusWordOf outcome)) (sets m (s .pointers .current + 0x1C) (bytesOf (statusWordOf outcome)))
+updateBy s outcome m SlaveError = next (haltOf s SgSlvErr) m
+updateBy s outcome m DecodeError = next (haltOf s SgDecErr) m
 
 abbrev pub updateOf : Engine → Outcome → List ℕ → List Window → Next
-updateOf s outcome m windows = updateBy s outcome m (groupOf (length m) windows (s .chain .current + 0x1C) 4)
+updateOf s outcome m windows = updateBy s outcome m (groupOf (length m) windows (s .pointers .current + 0x1C) 4)
 
 -- one step, by phase
 abbrev pub advanceBy : Engine → List ℕ → List Window → Phase → Next

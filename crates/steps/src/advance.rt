@@ -4,17 +4,17 @@ use crate::event::Event;
 use crate::fetch::fetch;
 use crate::shift::shift;
 use crate::update::update;
-use engine::state::Engine;
-use engine::state::Phase;
+use state::engine::Engine;
+use state::engine::Phase;
 ghost use mathlib.Core.Path.{_≡_};
 ghost use mathlib.Core.Bool.{true};
-ghost use Rattle.kit.specs.Settings.{legalSettings};
+ghost use Rattle.kit.specs.Settings.{legalOf};
 ghost use Rattle.memory.specs.Windows.{windowsOf};
-ghost use Rattle.engine.specs.State.{wellFormedOf};
+ghost use Rattle.state.specs.State.{wellFormedOf};
 ghost use Rattle.steps.specs.Step.{next, advanceOf};
 
 pub fn advance(engine: Engine, memory: &mut [u8], windows: &[u32]) -> Advanced
-    requires { ⌜ legalSettings (engine .settings .width) (engine .settings .beats) ≡ true ⌝ }
+    requires { ⌜ legalOf (engine .settings) ≡ true ⌝ }
     requires { ⌜ wellFormedOf engine ≡ true ⌝ }
     ensures { λ r. ⌜ next r (now (memory .exit)) ≡ advanceOf engine (now (memory .entry)) (windowsOf (now (windows .entry))) ⌝ }
 {

@@ -1,6 +1,6 @@
 // What one step reports.
 use cut::Burst;
-use engine::state::Engine;
+use state::engine::Engine;
 
 pub enum Event {
     None,

@@ -2,15 +2,15 @@
 use crate::event::Advanced;
 use crate::event::Event;
 use crate::halt::halt;
-use engine::state::Chain;
-use engine::state::Engine;
-use engine::state::ErrorBit;
-use engine::state::Outcome;
-use engine::state::Phase;
-use engine::state::Transfer;
 use kit::word::load;
 use memory::verdict::Verdict;
 use memory::verdict::judge;
+use state::engine::Engine;
+use state::engine::ErrorBit;
+use state::engine::Outcome;
+use state::engine::Phase;
+use state::engine::Pointers;
+use state::engine::Transfer;
 ghost use mathlib.Core.Path.{_≡_};
 ghost use Prim.Native.Nat.{_+_, _≤_};
 ghost use lib.ListN.{length};
@@ -44,17 +44,17 @@ fn take(
     ensures { λ r. ⌜ r ≡ takeOf engine next source destination control status ⌝ }
 {
     if status / 0x80000000 % 2 == 1 {
-        return halt(engine, ErrorBit::SgInternal);
+        return halt(engine, ErrorBit::SgIntErr);
     }
     let phase = described(source, destination, control % 8388608);
-    let chain = engine.chain;
-    let chain = Chain {
-        held: next / 64 * 64,
-        ..chain
+    let pointers = engine.pointers;
+    let pointers = Pointers {
+        heldnext: next / 64 * 64,
+        ..pointers
     };
-    let event = Event::Fetch(chain.current);
+    let event = Event::Fetch(pointers.current);
     let engine = Engine {
-        chain,
+        pointers,
         phase,
         ..engine
     };
@@ -76,11 +76,11 @@ fn taken(engine: Engine, memory: &[u8], at: usize) -> Advanced
 pub fn fetch(engine: Engine, memory: &[u8], windows: &[u32]) -> Advanced
     ensures { λ r. ⌜ r ≡ fetchOf engine (now (memory .entry)) (windowsOf (now (windows .entry))) ⌝ }
 {
-    let current = engine.chain.current;
+    let current = engine.pointers.current;
     let verdict = judge(memory.len(), windows, current as u64, 32);
     match verdict {
         Verdict::Okay => taken(engine, memory, current as usize),
-        Verdict::Slave => halt(engine, ErrorBit::SgSlave),
-        Verdict::Decode => halt(engine, ErrorBit::SgDecode),
+        Verdict::Slave => halt(engine, ErrorBit::SgSlvErr),
+        Verdict::Decode => halt(engine, ErrorBit::SgDecErr),
     }
 }

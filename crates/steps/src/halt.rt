@@ -1,11 +1,11 @@
 // Halting: Idle and Err_Irq set beside the error bit, current kept.
 use crate::event::Advanced;
 use crate::event::Event;
-use engine::state::Engine;
-use engine::state::ErrorBit;
-use engine::state::Phase;
-use engine::state::Status;
-use engine::state::bit_number;
+use state::engine::Engine;
+use state::engine::ErrorBit;
+use state::engine::Phase;
+use state::engine::Status;
+use state::engine::bit_number;
 ghost use mathlib.Core.Path.{_≡_};
 ghost use Rattle.steps.specs.Step.{haltedOf, haltOf};
 
@@ -14,8 +14,8 @@ pub fn halted(engine: Engine, bit: ErrorBit) -> Engine
 {
     let status = engine.status;
     let status = Status {
-        bit,
-        error: true,
+        fault: bit,
+        err: true,
         ..status
     };
     Engine {
@@ -30,7 +30,7 @@ pub fn halt(engine: Engine, bit: ErrorBit) -> Advanced
     ensures { λ r. ⌜ r ≡ haltOf engine bit ⌝ }
 {
     let event = Event::Halt {
-        current: engine.chain.current,
+        current: engine.pointers.current,
         bit: bit_number(bit),
     };
     let engine = halted(engine, bit);

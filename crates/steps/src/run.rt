@@ -2,23 +2,23 @@
 use crate::advance::advance;
 use crate::event::Advanced;
 use crate::event::Event;
-use engine::state::Engine;
-use engine::state::busy;
-use engine::state::well_formed;
 use kit::answer::Answer;
 use kit::answer::number;
 use kit::limits::MOST_MEMORY;
 use kit::limits::MOST_WINDOWS;
 use kit::settings::legal;
+use state::engine::Engine;
+use state::engine::busy;
+use state::engine::well_formed;
 ghost use mathlib.Core.Path.{_≡_};
 ghost use mathlib.Core.Bool.{true};
 ghost use Prim.Native.Nat.{_≤_, _/_};
 ghost use lib.ListN.{length};
 ghost use Rattle.kit.specs.Answer.{numberOf};
 ghost use Rattle.kit.specs.Limits.{mostMemory};
-ghost use Rattle.kit.specs.Settings.{legalSettings};
+ghost use Rattle.kit.specs.Settings.{legalOf};
 ghost use Rattle.memory.specs.Windows.{windowsOf};
-ghost use Rattle.engine.specs.State.{wellFormedOf};
+ghost use Rattle.state.specs.State.{wellFormedOf};
 ghost use Rattle.steps.specs.Run.{refusalOf, walkFrom, begun, walked, stepOf, stepSeen, runOf, runSeen};
 
 // A step's answer, its event, none beside a refusal, and the state after it.
@@ -46,7 +46,7 @@ struct Walked {
 fn refusal(engine: Engine, size: usize, windows: usize) -> Answer
     ensures { λ r. ⌜ numberOf r ≡ refusalOf engine size windows ⌝ }
 {
-    if !legal(engine.settings.width, engine.settings.beats) {
+    if !legal(engine.settings) {
         return Answer::Settings;
     }
     if size > MOST_MEMORY {
@@ -64,7 +64,7 @@ fn refusal(engine: Engine, size: usize, windows: usize) -> Answer
 // Up to `most` steps, ended early where the engine is idle. Both entry points come through here, so that the step
 // itself has one caller and is compiled into the loop.
 fn walk(engine: Engine, memory: &mut [u8], windows: &[u32], most: u32) -> Walked
-    requires { ⌜ legalSettings (engine .settings .width) (engine .settings .beats) ≡ true ⌝ }
+    requires { ⌜ legalOf (engine .settings) ≡ true ⌝ }
     requires { ⌜ length (now memory) ≤ mostMemory ⌝ }
     requires { ⌜ wellFormedOf engine ≡ true ⌝ }
     ensures { λ r. ⌜ walked r (now (memory .exit)) ≡ walkFrom most 0 (begun engine (now (memory .entry))) (windowsOf (now (windows .entry))) ⌝ }

@@ -4,30 +4,30 @@ use crate::event::Event;
 use crate::halt::halted;
 use cut::Burst;
 use cut::burst_end;
-use engine::state::Engine;
-use engine::state::ErrorBit;
-use engine::state::Outcome;
-use engine::state::Phase;
-use engine::state::Status;
-use engine::state::Transfer;
-use engine::state::bit_number;
 use memory::burst::copy;
 use memory::verdict::Verdict;
 use memory::verdict::judge_pair;
+use state::engine::Engine;
+use state::engine::ErrorBit;
+use state::engine::Outcome;
+use state::engine::Phase;
+use state::engine::Status;
+use state::engine::Transfer;
+use state::engine::bit_number;
 ghost use mathlib.Core.Path.{_≡_};
 ghost use mathlib.Core.Bool.{true};
 ghost use Prim.Native.Nat.{_+_, _≤_};
 ghost use Rattle.kit.specs.Limits.{mostBytes};
-ghost use Rattle.kit.specs.Settings.{legalSettings};
+ghost use Rattle.kit.specs.Settings.{legalOf};
 ghost use Rattle.memory.specs.Windows.{windowsOf};
-ghost use Rattle.engine.specs.State.{transferFits};
+ghost use Rattle.state.specs.State.{transferFits};
 ghost use Rattle.steps.specs.Step.{Carriable, next, endedOf, movedOnOf, movedOf, faultedOf, carryOf, moveOf};
 
 // After the last burst: chain mode goes to update, simple mode ends in this same step.
 fn ended(engine: Engine) -> Engine
     ensures { λ r. ⌜ r ≡ endedOf engine ⌝ }
 {
-    if engine.control.chain {
+    if engine.control.sgmode {
         return Engine {
             phase: Phase::Update(Outcome::Complete),
             ..engine
@@ -35,7 +35,7 @@ fn ended(engine: Engine) -> Engine
     }
     let status = engine.status;
     let status = Status {
-        complete: true,
+        ioc: true,
         ..status
     };
     Engine {
@@ -76,7 +76,7 @@ fn faulted(engine: Engine, destination: u32, outcome: Outcome, bit: ErrorBit) ->
         destination,
         bit: bit_number(bit),
     };
-    if engine.control.chain {
+    if engine.control.sgmode {
         let engine = Engine {
             phase: Phase::Update(outcome),
             ..engine
@@ -106,13 +106,13 @@ fn carry(
             copy(memory, from as usize, at as usize, bytes as usize);
             moved(engine, transfer, at as u32, bytes as u32)
         }
-        Verdict::Slave => faulted(engine, at as u32, Outcome::Slave, ErrorBit::DmaSlave),
-        Verdict::Decode => faulted(engine, at as u32, Outcome::Decode, ErrorBit::DmaDecode),
+        Verdict::Slave => faulted(engine, at as u32, Outcome::Slave, ErrorBit::DmaSlvErr),
+        Verdict::Decode => faulted(engine, at as u32, Outcome::Decode, ErrorBit::DmaDecErr),
     }
 }
 
 pub fn shift(engine: Engine, transfer: Transfer, memory: &mut [u8], windows: &[u32]) -> Advanced
-    requires { ⌜ legalSettings (engine .settings .width) (engine .settings .beats) ≡ true ⌝ }
+    requires { ⌜ legalOf (engine .settings) ≡ true ⌝ }
     requires { ⌜ transferFits transfer ≡ true ⌝ }
     ensures { λ r. ⌜ next r (now (memory .exit)) ≡ moveOf engine transfer (now (memory .entry)) (windowsOf (now (windows .entry))) ⌝ }
 {

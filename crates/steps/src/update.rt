@@ -3,15 +3,15 @@ use crate::event::Advanced;
 use crate::event::Event;
 use crate::halt::halt;
 use crate::halt::halted;
-use engine::state::Chain;
-use engine::state::Engine;
-use engine::state::ErrorBit;
-use engine::state::Outcome;
-use engine::state::Phase;
-use engine::state::Status;
 use kit::word::store;
 use memory::verdict::Verdict;
 use memory::verdict::judge;
+use state::engine::Engine;
+use state::engine::ErrorBit;
+use state::engine::Outcome;
+use state::engine::Phase;
+use state::engine::Pointers;
+use state::engine::Status;
 ghost use mathlib.Core.Path.{_≡_};
 ghost use Prim.Native.Nat.{_+_};
 ghost use Rattle.memory.specs.Windows.{windowsOf};
@@ -35,29 +35,29 @@ fn completed(engine: Engine) -> Engine
 {
     let status = engine.status;
     let status = Status {
-        complete: true,
+        ioc: true,
         ..status
     };
-    let chain = engine.chain;
-    let chain = Chain {
-        next: chain.held,
-        ..chain
+    let pointers = engine.pointers;
+    let pointers = Pointers {
+        next: pointers.heldnext,
+        ..pointers
     };
-    if chain.current == chain.tail {
+    if pointers.current == pointers.tail {
         return Engine {
             status,
-            chain,
+            pointers,
             phase: Phase::Idle,
             ..engine
         };
     }
-    let chain = Chain {
-        current: chain.held,
-        ..chain
+    let pointers = Pointers {
+        current: pointers.heldnext,
+        ..pointers
     };
     Engine {
         status,
-        chain,
+        pointers,
         phase: Phase::Fetch,
         ..engine
     }
@@ -68,9 +68,9 @@ fn settled(engine: Engine, outcome: Outcome) -> Engine
 {
     match outcome {
         Outcome::Complete => completed(engine),
-        Outcome::Internal => halted(engine, ErrorBit::DmaInternal),
-        Outcome::Slave => halted(engine, ErrorBit::DmaSlave),
-        Outcome::Decode => halted(engine, ErrorBit::DmaDecode),
+        Outcome::Internal => halted(engine, ErrorBit::DmaIntErr),
+        Outcome::Slave => halted(engine, ErrorBit::DmaSlvErr),
+        Outcome::Decode => halted(engine, ErrorBit::DmaDecErr),
     }
 }
 
@@ -78,7 +78,7 @@ fn updated(engine: Engine, outcome: Outcome, word: u32) -> Advanced
     ensures { λ r. ⌜ r ≡ updatedOf engine outcome word ⌝ }
 {
     let event = Event::Update {
-        current: engine.chain.current,
+        current: engine.pointers.current,
         word,
     };
     let engine = settled(engine, outcome);
@@ -88,7 +88,7 @@ fn updated(engine: Engine, outcome: Outcome, word: u32) -> Advanced
 pub fn update(engine: Engine, outcome: Outcome, memory: &mut [u8], windows: &[u32]) -> Advanced
     ensures { λ r. ⌜ next r (now (memory .exit)) ≡ updateOf engine outcome (now (memory .entry)) (windowsOf (now (windows .entry))) ⌝ }
 {
-    let at = engine.chain.current as u64 + 28;
+    let at = engine.pointers.current as u64 + 28;
     let verdict = judge(memory.len(), windows, at, 4);
     match verdict {
         Verdict::Okay => {
@@ -96,7 +96,7 @@ pub fn update(engine: Engine, outcome: Outcome, memory: &mut [u8], windows: &[u3
             store(memory, at as usize, word);
             updated(engine, outcome, word)
         }
-        Verdict::Slave => halt(engine, ErrorBit::SgSlave),
-        Verdict::Decode => halt(engine, ErrorBit::SgDecode),
+        Verdict::Slave => halt(engine, ErrorBit::SgSlvErr),
+        Verdict::Decode => halt(engine, ErrorBit::SgDecErr),
     }
 }

@@ -9,7 +9,7 @@ use lib.Dec.{eqb, leb, ltb}
 use Rattle.kit.specs.Limits.{mostWindows}
 use Rattle.kit.proofs.Choice.{cases}
 use Rattle.memory.specs.Windows.{windowsOf}
-use Rattle.engine.specs.declared.state.Engine.{Engine}
+use Rattle.state.specs.declared.engine.Engine.{Engine}
 use Rattle.steps.specs.Step.{Next}
 use Rattle.steps.specs.Run.{refusalOf, stepOf}
 use Rattle.steps.proofs.Kept.{advance-length}

@@ -7,8 +7,8 @@ use lib.Dec.{eqb, leb, ltb}
 use Rattle.kit.specs.Choice.{when}
 use Rattle.kit.specs.Limits.{mostWindows}
 use Rattle.kit.specs.Settings.{legalSettings}
-use Rattle.engine.specs.declared.state.Engine.{Engine}
-use Rattle.engine.specs.State.{freshOf}
+use Rattle.state.specs.declared.engine.Engine.{Engine}
+use Rattle.state.specs.State.{freshOf}
 use Rattle.registers.specs.Write as registers-written
 use Rattle.registers.specs.Read as registers-read
 use Rattle.monitor.specs.declared.clock.Clock.{Clock}

@@ -6,8 +6,8 @@ use lib.ListN.{take}
 use lib.Dec.{eqb, leb}
 use Rattle.kit.specs.Choice.{when}
 use Rattle.kit.specs.Limits.{mostWindows}
-use Rattle.engine.specs.declared.state.Engine.{Engine}
-use Rattle.engine.specs.State.{busyOf}
+use Rattle.state.specs.declared.engine.Engine.{Engine}
+use Rattle.state.specs.State.{busyOf}
 use Rattle.registers.specs.Read.{bitIf}
 use Rattle.steps.specs.declared.event.Event.{Event}
 use Rattle.steps.specs.declared.event.Event.the-variants.{None, Fetch, Move, Fault, Update, Halt}

@@ -2,10 +2,9 @@
 use crate::session::Effect;
 use crate::session::Mode;
 use crate::session::Session;
-use engine::state::Settings;
-use engine::state::fresh;
 use kit::answer::number;
 use kit::limits::MOST_WINDOWS;
+use kit::settings::Settings;
 use kit::settings::legal;
 use listing::line::Line;
 use listing::word::Word;
@@ -13,6 +12,7 @@ use monitor::clock::Clock;
 use monitor::monitor::bus_clock;
 use registers::read::read;
 use registers::write::write;
+use state::engine::fresh;
 ghost use mathlib.Core.Path.{_≡_};
 ghost use Prim.Native.Nat.{_+_, _≤_};
 ghost use lib.ListN.{length};
@@ -38,7 +38,7 @@ pub fn bad(session: Session, answer: u32, position: u64) -> Effect
 pub fn settings(session: Session, sequence: u32, width: u32, beats: u32, position: u64) -> Effect
     ensures { λ r. ⌜ r ≡ settingsOf session sequence width beats position ⌝ }
 {
-    if !legal(width, beats) {
+    if !legal(Settings { width, beats }) {
         return bad(session, 1, position);
     }
     let engine = fresh(Settings { width, beats });

@@ -1,9 +1,9 @@
 // What a replay holds between two lines, beside the memory and the windows that the program lends.
-use engine::state::Engine;
-use engine::state::Settings;
-use engine::state::fresh;
+use kit::settings::Settings;
 use listing::line::Line;
 use monitor::monitor::Monitor;
+use state::engine::Engine;
+use state::engine::fresh;
 ghost use mathlib.Core.Path.{_≡_};
 ghost use Rattle.trace.specs.Effect.{startOf};
 

@@ -2,10 +2,10 @@
 use crate::session::Effect;
 use crate::session::Mode;
 use crate::session::Session;
-use engine::state::busy;
 use kit::limits::MOST_WINDOWS;
 use listing::line::Line;
 use listing::word::Word;
+use state::engine::busy;
 use steps::event::Event;
 use steps::run::Stepped;
 use steps::run::step;

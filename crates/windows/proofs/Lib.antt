@@ -1,7 +1,6 @@
 pub mod Copies
-pub mod Fewer
-pub mod Lent
+pub mod FirstWindows
+pub mod WindowSlice
 pub mod Looks
-pub mod Single
 pub mod Tested
-pub mod Told
+pub mod AfterCall

@@ -1,12 +1,11 @@
 // One step and a run of steps over lent windows: any state, any memory, any windows.
 use crate::table::Table;
 use crate::table::table_of;
-use engine::state::Engine;
 use memory::window::Window;
+use state::engine::Engine;
 use steps::run::Ran;
 use steps::run::Stepped;
 ghost use mathlib.Core.Path.{_≡_};
-ghost use mathlib.Core.List.{[], _∷_};
 ghost use Rattle.steps.specs.Run.{stepOf, stepSeen, runOf, runSeen};
 ghost use Rattle.windows.specs.Flat.{flatOf};
 ghost use Rattle.windows.specs.Table.{written, Has};
@@ -25,14 +24,6 @@ pub fn run(engine: Engine, memory: &mut [u8], windows: &[Window], most: u16) -> 
 {
     let table = table_of(windows);
     run_table(engine, memory, table, most)
-}
-
-// A step with one sick window. Its parameters are plain, so that whoever calls it needs no walk by hand.
-pub fn step_with_one(engine: Engine, memory: &mut [u8], start: u32, length: u32) -> Stepped
-    ensures { λ r. ⌜ stepSeen r (now (memory .exit)) ≡ stepOf engine (now (memory .entry)) (start ∷ length ∷ []) ⌝ }
-{
-    let windows = [Window { start, length }];
-    step(engine, memory, &windows)
 }
 
 // The numbers in use are lent to the step itself.

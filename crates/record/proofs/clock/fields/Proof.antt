@@ -63,7 +63,7 @@ returns c =
     let a = c .before .before .before .before .before .before .before .before .before .before .args in
     let whole = clockAt (now (a .input)) (a .at) (a .bits) in
     λ i. record {
-      running = whole .running;
+      aresetn = whole .aresetn;
       valid = whole .valid;
       ready = whole .ready;
       address = c .before .before .before .before .before .before .before .before .load .ensures i;

@@ -3,9 +3,9 @@ use mathlib.Core.Bool.{true}
 use borrow.Author.Needs.{needs}
 use denote.Ref.{now}
 use Rattle.memory.specs.Windows.{windowsOf}
-use Rattle.engine.specs.declared.state.Phase.{Phase}
-use Rattle.engine.specs.State.{phaseFits}
-use Rattle.engine.proofs.WellFormed.{parts}
+use Rattle.state.specs.declared.engine.Phase.{Phase}
+use Rattle.state.specs.State.{phaseFits}
+use Rattle.state.proofs.WellFormed.{parts}
 use Rattle.steps.specs.Step.{next, advanceBy, advanceOf}
 use Rattle.steps.proofs.advance.advance.Statement.{statement}
 use Rattle.steps.proofs.advance.advance.Tie as tie
@@ -25,7 +25,7 @@ enum-known-phase c = search needs
 shift-requires : tie.Need-shift-requires
 shift-requires c κs =
     let a = c .before .before .before .before .before .before .args in
-    (c .before .before .before .before .before .before .pre .0, subst (λ (p : Phase). phaseFits p (a .engine .control .chain) ≡ true) (c .before .before .phase .given .1) (parts (a .engine) (c .before .before .before .before .before .before .pre .1) .phase))
+    (c .before .before .before .before .before .before .pre .0, subst (λ (p : Phase). phaseFits p (a .engine .control .sgmode) ≡ true) (c .before .before .phase .given .1) (parts (a .engine) (c .before .before .before .before .before .before .pre .1) .phase))
 
 enum-known-phase-2 : tie.Need-enum-known-phase-2
 enum-known-phase-2 c = search needs

@@ -24,7 +24,7 @@ cast-taken c = search needs
 taken-requires : tie.Need-taken-requires
 taken-requires c κs =
     let a = c .before .before .before .before .before .args in
-    group-okay-fits (length (now (a .memory))) (windowsOf (now (a .windows))) (a .engine .chain .current) 32 (sym (c .before .before .judge .ensures) ∙ c .enum-told .given .1) (omega arith)
+    group-okay-fits (length (now (a .memory))) (windowsOf (now (a .windows))) (a .engine .pointers .current) 32 (sym (c .before .before .judge .ensures) ∙ c .enum-told .given .1) (omega arith)
 
 enum-told-2 : tie.Need-enum-told-2
 enum-told-2 c = search needs

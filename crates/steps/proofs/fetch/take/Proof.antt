@@ -2,11 +2,11 @@ use mathlib.Core.Path.{ap}
 use borrow.Author.Needs.{needs}
 use borrow.Author.Tests.{eq-eqb, ne-eqb}
 use Rattle.kit.proofs.Choice.{yes, no}
-use Rattle.engine.specs.declared.state.Phase.{Phase}
-use Rattle.engine.specs.State.{withChain, withPhase}
+use Rattle.state.specs.declared.engine.Phase.{Phase}
+use Rattle.state.specs.State.{withPointers, withPhase}
 use Rattle.steps.specs.declared.event.Event.the-variants.{Fetch}
 use Rattle.steps.specs.declared.event.Advanced.{Advanced}
-use Rattle.engine.specs.Bits.{pointer}
+use Rattle.state.specs.Bits.{pointer}
 use Rattle.steps.specs.Step.{takeOf}
 use Rattle.steps.proofs.fetch.take.Statement.{statement}
 use Rattle.steps.proofs.fetch.take.Tie as tie
@@ -29,7 +29,7 @@ unfolding takeOf
 returns-2 c =
     let a = c .before .before .before .before .before .before .before .args in
     no _ (ne-eqb _ 1 (c .before .before .before .before .before .before .if1 .left))
-    (ap {B = Advanced} (λ (p : Phase). record { event = Fetch (a .engine .chain .current); engine = withPhase (withChain (a .engine) (record { current = a .engine .chain .current; tail = a .engine .chain .tail; next = a .engine .chain .next; held = pointer (a .next) })) p }) (c .before .before .before .before .before .described .ensures))
+    (ap {B = Advanced} (λ (p : Phase). record { event = Fetch (a .engine .pointers .current); engine = withPhase (withPointers (a .engine) (record { current = a .engine .pointers .current; tail = a .engine .pointers .tail; next = a .engine .pointers .next; heldnext = pointer (a .next) })) p }) (c .before .before .before .before .before .described .ensures))
 
 pub take-spec : {M : Type 1} → statement M
 take-spec = tie.close (tie.spec halt-requires returns described-requires mul-t12 returns-2)

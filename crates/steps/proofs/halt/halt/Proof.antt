@@ -1,7 +1,7 @@
 use mathlib.Core.Path.{ap₂}
 use Prim.Native.Nat.{ℕ}
 use borrow.Author.Needs.{needs}
-use Rattle.engine.specs.declared.state.Engine.{Engine}
+use Rattle.state.specs.declared.engine.Engine.{Engine}
 use Rattle.steps.specs.declared.event.Event.the-variants.{Halt}
 use Rattle.steps.specs.declared.event.Advanced.{Advanced}
 use Rattle.steps.proofs.halt.halt.Statement.{statement}
@@ -14,7 +14,7 @@ halted-requires : tie.Need-halted-requires
 halted-requires c κs = search needs
 
 returns : tie.Need-returns
-returns c = ap₂ {C = Advanced} (λ (n : ℕ) (s : Engine). record { event = Halt (c .before .before .args .engine .chain .current) n; engine = s }) (c .before .bit-number .ensures) (c .halted .ensures)
+returns c = ap₂ {C = Advanced} (λ (n : ℕ) (s : Engine). record { event = Halt (c .before .before .args .engine .pointers .current) n; engine = s }) (c .before .bit-number .ensures) (c .halted .ensures)
 
 pub halt-spec : {M : Type 1} → statement M
 halt-spec = tie.close (tie.spec bit-number-requires halted-requires returns)

@@ -2,7 +2,7 @@ use mathlib.Core.Path.{refl, ap₂}
 use Prim.Native.Nat.{ℕ}
 use borrow.Author.Needs.{needs}
 use Rattle.kit.proofs.Choice.{yes, no}
-use Rattle.engine.specs.declared.state.Engine.{Engine}
+use Rattle.state.specs.declared.engine.Engine.{Engine}
 use Rattle.steps.specs.declared.event.Event.the-variants.{Fault}
 use Rattle.steps.specs.declared.event.Advanced.{Advanced}
 use Rattle.steps.proofs.shift.faulted.Statement.{statement}

@@ -1,6 +1,6 @@
 use mathlib.Core.Path.{ap}
 use borrow.Author.Needs.{needs}
-use Rattle.engine.specs.declared.state.Engine.{Engine}
+use Rattle.state.specs.declared.engine.Engine.{Engine}
 use Rattle.steps.specs.declared.event.Event.the-variants.{Move}
 use Rattle.steps.specs.declared.event.Advanced.{Advanced}
 use Rattle.steps.proofs.shift.moved.Statement.{statement}

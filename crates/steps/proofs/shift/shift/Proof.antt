@@ -5,7 +5,7 @@ use borrow.Author.Needs.{needs}
 use denote.Ref.{now}
 use Rattle.kit.proofs.Legal.{legal}
 use Rattle.memory.specs.Windows.{windowsOf}
-use Rattle.engine.proofs.WellFormed.{transfer-fits}
+use Rattle.state.proofs.WellFormed.{transfer-fits}
 use Rattle.steps.specs.Step.{Carriable, carryOf}
 use Rattle.steps.proofs.Bursts.{stops, carriable}
 use Rattle.steps.proofs.shift.shift.Statement.{statement}

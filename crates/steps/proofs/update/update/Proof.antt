@@ -30,7 +30,7 @@ status-word-requires c κs = search needs
 store-requires : tie.Need-store-requires
 store-requires c κs =
     let a = c .before .before .before .before .before .before .before .before .args in
-    group-okay-fits (length (now (a .memory))) (windowsOf (now (a .windows))) (a .engine .chain .current + 28) 4 (sym (c .before .before .before .before .judge .ensures) ∙ c .before .before .enum-told .given .1) (omega arith)
+    group-okay-fits (length (now (a .memory))) (windowsOf (now (a .windows))) (a .engine .pointers .current + 28) 4 (sym (c .before .before .before .before .judge .ensures) ∙ c .before .before .enum-told .given .1) (omega arith)
 
 updated-requires : tie.Need-updated-requires
 updated-requires c κs = search needs
@@ -57,7 +57,7 @@ returns c =
     let then = ap (updateBy (a .engine) (a .outcome) (now (a .memory))) judged in
     let word = c .before .before .before .before .before .status-word .ensures in
     ap₂ next (c .updated .ensures ∙ ap (updatedOf (a .engine) (a .outcome)) word)
-    (c .before .before .before .store .ensures ∙ ap (λ (v : ℕ). sets (now (a .memory)) (a .engine .chain .current + 28) (bytesOf v)) word) ∙ then
+    (c .before .before .before .store .ensures ∙ ap (λ (v : ℕ). sets (now (a .memory)) (a .engine .pointers .current + 28) (bytesOf v)) word) ∙ then
 
 returns-2 : tie.Need-returns-2
 returns-2 c =

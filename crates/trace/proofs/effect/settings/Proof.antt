@@ -2,7 +2,7 @@ use mathlib.Core.Path.{sym, ap, _∙_}
 use borrow.Author.Needs.{needs}
 use borrow.Author.Tests.{not-true, not-false}
 use Rattle.kit.proofs.Choice.{yes, no}
-use Rattle.engine.specs.declared.state.Engine.{Engine}
+use Rattle.state.specs.declared.engine.Engine.{Engine}
 use Rattle.trace.specs.Effect.{withEngine}
 use Rattle.listing.specs.declared.word.Word.the-variants as words
 use Rattle.trace.specs.declared.session.Effect.{Effect}

@@ -1,6 +1,6 @@
 use mathlib.Core.Path.{ap₂}
 use borrow.Author.Needs.{needs}
-use Rattle.engine.specs.declared.state.Engine.{Engine}
+use Rattle.state.specs.declared.engine.Engine.{Engine}
 use Rattle.monitor.specs.declared.monitor.Monitor.{Monitor}
 use Rattle.trace.specs.declared.session.Mode.the-variants.{Records}
 use Rattle.trace.specs.declared.session.Session.{Session}

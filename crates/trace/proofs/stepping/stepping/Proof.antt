@@ -7,7 +7,7 @@ use borrow.Author.Needs.{needs}
 use borrow.Author.Tests.{eq-eqb, ne-eqb, le-leb, lt-leb}
 use denote.Ref.{now}
 use Rattle.kit.proofs.Choice.{yes, no}
-use Rattle.steps.specs.Run.{Step, stepOf}
+use Rattle.steps.specs.Run.{AfterStep, stepOf}
 use Rattle.trace.specs.declared.session.Effect.{Effect}
 use Rattle.trace.specs.Effect.{effected}
 use Rattle.trace.specs.Stepping.{afterStep}
@@ -45,10 +45,10 @@ returns-3 : tie.Need-returns-3
 returns-3 c =
     let a = c .before .before .before .before .before .before .before .before .before .before .before .before .args in
     let used = c .before .before .before .before .before .before .used .ensures .0 in
-    let stepped = c .before .before .before .step .ensures ∙ ap (λ (n : ℕ). stepOf (a .session .engine) (now (a .memory)) (take n (now (a .windows)))) used in
+    let stepAnswer = c .before .before .before .step .ensures ∙ ap (λ (n : ℕ). stepOf (a .session .engine) (now (a .memory)) (take n (now (a .windows)))) used in
     no _ (ne-eqb _ 0 (c .before .before .before .before .before .before .before .before .before .if1 .left)) (no _ (lt-leb _ _ (c .before .before .before .before .before .before .before .before .if2 .left))
     (ap (λ (e : Effect). effected e (c .before .before .before .step .last .1 .0)) (c .after-step .ensures)
-    ∙ ap (λ (r : Step). effected (afterStep (a .session) (a .left) (a .taken) (r .event) (r .engine)) (r .memory)) stepped))
+    ∙ ap (λ (r : AfterStep). effected (afterStep (a .session) (a .left) (a .taken) (r .event) (r .engine)) (r .memory)) stepAnswer))
 
 pub stepping-spec : {M : Type 1} → statement M
 stepping-spec =

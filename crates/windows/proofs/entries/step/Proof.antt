@@ -38,9 +38,9 @@ use denote.Triple.Walked.{says, Stays, stay-dropped, gave-slice, walkOf, goes-dr
 use denote.Exit.{yes}
 use Rattle.memory.specs.declared.window.Window.{Window}
 use Rattle.memory.proofs.window.Window as P
-use Rattle.engine.specs.declared.state.Engine.{Engine}
-use Rattle.engine.proofs.state.Engine as E
-use Rattle.engine.proofs.state.Engine.Laws as E′
+use Rattle.state.specs.declared.engine.Engine.{Engine}
+use Rattle.state.proofs.state.Engine as E
+use Rattle.state.proofs.state.Engine.Laws as E′
 use Rattle.steps.specs.declared.run.Stepped.{Stepped}
 use Rattle.steps.specs.Run.{stepSeen, stepOf}
 use Rattle.steps.proofs.run.Stepped as R
@@ -50,9 +50,9 @@ use Rattle.windows.specs.Flat.{flatOf}
 use Rattle.windows.specs.Table.{most, written, Has}
 use Rattle.windows.proofs.table.Table as T
 use Rattle.windows.proofs.table.Table.Laws as T′
-use Rattle.windows.proofs.Fewer.{step-fewer}
-use Rattle.windows.proofs.Lent.{slice}
-use Rattle.windows.proofs.Told.{told, told-last}
+use Rattle.windows.proofs.FirstWindows.{step-fewer}
+use Rattle.windows.proofs.WindowSlice.{slice}
+use Rattle.windows.proofs.AfterCall.{told, told-last}
 use Rattle.windows.proofs.table.table_of as table-of
 use Rattle.windows.proofs.table.table_of.Symbol as table-of-def
 use Rattle.windows.proofs.table.table_of.Symbol.{name as #table-of}

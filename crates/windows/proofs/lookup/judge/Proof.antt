@@ -45,8 +45,8 @@ use Rattle.memory.proofs.verdict.Verdict as Vd
 use Rattle.memory.proofs.verdict.Verdict.Laws as Vd′
 use Rattle.windows.specs.Lookup.{among, pastOf, decideOf}
 use Rattle.windows.proofs.Looks.{judged}
-use Rattle.windows.proofs.Lent.{slice}
-use Rattle.windows.proofs.Told.{told}
+use Rattle.windows.proofs.WindowSlice.{slice}
+use Rattle.windows.proofs.AfterCall.{told}
 use Rattle.windows.proofs.lookup.past as past
 use Rattle.windows.proofs.lookup.past.Symbol as past-def
 use Rattle.windows.proofs.lookup.past.Symbol.{name as #past}

@@ -55,9 +55,9 @@ use Rattle.memory.proofs.window.touches.Symbol.{name as #touches}
 use Rattle.memory.proofs.window.touches.Met as touches-thm
 use Rattle.windows.specs.Lookup.{among}
 use Rattle.windows.proofs.Looks.{among-here, among-on, among-end}
-use Rattle.windows.proofs.Lent.{slice, lowered, past, nth-window, Shared, looks-windows, window-out, window-back}
+use Rattle.windows.proofs.WindowSlice.{slice, lowered, past, nth-window, Shared, looks-windows, window-out, window-back}
 use Rattle.windows.proofs.Tested.{tested}
-use Rattle.windows.proofs.Told.{told}
+use Rattle.windows.proofs.AfterCall.{told}
 use Rattle.windows.proofs.lookup.sick_among.Key.{name as #sick-among}
 use Rattle.windows.proofs.lookup.sick_among as sick-among
 use Rattle.windows.proofs.lookup.sick_among.Statement as stated

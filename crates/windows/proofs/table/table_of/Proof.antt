@@ -53,9 +53,9 @@ use Rattle.windows.specs.Table.{most, copiedOf, room, written, Has}
 use Rattle.windows.proofs.table.Table as T
 use Rattle.windows.proofs.table.Table.Laws as T′
 use Rattle.windows.proofs.Copies.{copied-within, copied-most, take-copied, flat-next, has-windows}
-use Rattle.windows.proofs.Lent.{slice, lowered, past, nth-window, Shared, looks-windows, window-out, window-back}
+use Rattle.windows.proofs.WindowSlice.{slice, lowered, past, nth-window, Shared, looks-windows, window-out, window-back}
 use Rattle.windows.proofs.Tested.{tested}
-use Rattle.windows.proofs.Told.{told}
+use Rattle.windows.proofs.AfterCall.{told}
 use Rattle.windows.proofs.table.copied as copied
 use Rattle.windows.proofs.table.copied.Symbol as copied-def
 use Rattle.windows.proofs.table.copied.Symbol.{name as #copied}

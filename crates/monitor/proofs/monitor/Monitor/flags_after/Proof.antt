@@ -11,7 +11,7 @@ use Rattle.monitor.proofs.monitor.Monitor.flags_after.Tie as tie
 
 returns : tie.Need-returns
 unfolding flagsOf
-returns c = no _ (not-true (c .before .before .args .clock .running) (c .if1 .taken)) refl
+returns c = no _ (not-true (c .before .before .args .clock .aresetn) (c .if1 .taken)) refl
 
 valid-flags-requires : tie.Need-valid-flags-requires
 valid-flags-requires c κs = range (c .before .before .before .args .clock) (c .before .before .before .pre)
@@ -23,7 +23,7 @@ returns-2 : tie.Need-returns-2
 unfolding flagsOf
 returns-2 c =
     let k = c .before .before .before .before .before .args in
-    yes _ (not-false (k .clock .running) (c .before .before .before .if1 .left))
+    yes _ (not-false (k .clock .aresetn) (c .before .before .before .if1 .left))
     (c .held-flags .ensures ∙ ap (λ (f : ℕ). heldFlags f (k .self .before) (k .clock)) (c .before .valid-flags .ensures))
 
 pub flags-after-spec : {M : Type 1} → statement M

@@ -1,2 +1,0 @@
-// The engine's state, what makes it well formed, and its interrupt line.
-pub mod state;

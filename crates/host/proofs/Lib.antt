@@ -1,4 +1,0 @@
-pub mod Same
-pub mod Engines
-pub mod Kept
-pub mod Monitors

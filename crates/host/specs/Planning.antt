@@ -1,8 +1,0 @@
--- include/belikumba.h, "Plan": what C sees of a plan.
-use Prim.Native.Nat.{ℕ}
-use mathlib.Core.List.{List}
-use Rattle.plan.specs.Plan.{Plan}
-use Rattle.host.specs.declared.planning.PlannedForC.{PlannedForC}
-
-abbrev pub plannedSeen : PlannedForC → List ℕ → Plan
-plannedSeen r places = record { answer = r .answer; bursts = r .bursts; places = places }

@@ -1,0 +1,42 @@
+use Rattle.interface.proofs.Engines.{held, not-held}
+use mathlib.Core.Path.{sym, ap}
+use denote.Ref.{now}
+use lib.ListN.{length}
+use mathlib.Core.List.{List}
+use Prim.Native.Nat.{ℕ}
+use borrow.Author.Needs.{needs}
+use Rattle.interface.proofs.engine_words.load.Statement.{statement}
+use Rattle.interface.proofs.engine_words.load.Tie as tie
+
+spelled-requires : tie.Need-spelled-requires
+spelled-requires c κs = search needs
+
+store-requires : tie.Need-store-requires
+store-requires c κs = search needs
+
+slice-aggregate-same : tie.Need-slice-aggregate-same
+slice-aggregate-same c = sym (ap (λ (l : List ℕ). length l) (c .before .before .store .ensures))
+
+same-requires : tie.Need-same-requires
+same-requires c κs = search needs
+
+lost-requires : tie.Need-lost-requires
+lost-requires c κs = search needs
+
+returns : tie.Need-returns
+returns c = held (now (c .before .before .before .before .before .before .before .args .words)) (c .before .before .before .before .before .before .spelled .ensures) (c .before .before .before .before .store .ensures) (c .before .same .ensures) (c .if1 .taken)
+
+returns-2 : tie.Need-returns-2
+returns-2 c = not-held (now (c .before .before .before .before .before .before .before .before .args .words)) (c .before .before .before .before .before .before .before .spelled .ensures) (c .before .before .before .before .before .store .ensures) (c .before .before .same .ensures) (c .before .if1 .left) (c .lost .ensures)
+
+pub load-spec : {M : Type 1} → statement M
+load-spec =
+    tie.close
+    (tie.spec
+    spelled-requires
+    store-requires
+    slice-aggregate-same
+    same-requires
+    lost-requires
+    returns
+    returns-2)

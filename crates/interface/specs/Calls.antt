@@ -1,0 +1,94 @@
+-- include/belikumba.h, "Engine": each call over an engine's words is the call on the engine that they hold.
+use Prim.Native.Nat.{ℕ}
+use mathlib.Core.List.{List}
+use lib.Dec.{eqb}
+use Rattle.kit.specs.Choice.{when}
+use Rattle.kit.specs.Settings.{legalOf}
+use Rattle.state.specs.declared.engine.Engine.{Engine}
+use Rattle.state.specs.State.{wellFormedOf, interruptLineOf}
+use Rattle.registers.specs.Read.{Value, gives, noValue, readOf}
+use Rattle.registers.specs.Write.{AfterWrite, writeOf}
+use Rattle.steps.specs.declared.event.Event.{Event}
+use Rattle.steps.specs.declared.event.Event.the-variants.{None, Fetch, Move, Fault, Update, Halt}
+use Rattle.steps.specs.Run.{AfterStep, stepOf, AfterRun, runOf}
+use Rattle.interface.specs.declared.accesses.ValueForC.{ValueForC}
+use Rattle.interface.specs.declared.stepping.SteppedForC.{SteppedForC}
+use Rattle.interface.specs.declared.stepping.RanForC.{RanForC}
+use Rattle.interface.specs.EngineWords.{truth, wordsOf, engineOf}
+
+abbrev pub valueSeen : ValueForC → Value
+valueSeen r = record { answer = r .answer; value = r .value }
+
+abbrev pub readWordsOf : List ℕ → ℕ → Value
+readWordsOf w offset = readOf (engineOf w) offset
+
+-- the interrupt line: 1, 9
+abbrev pub lineOf : Engine → Value
+lineOf s =
+    when (legalOf (s .settings))
+    (when (wellFormedOf s) (gives (truth (interruptLineOf s))) (noValue 9))
+    (noValue 1)
+
+abbrev pub lineWordsOf : List ℕ → Value
+lineWordsOf w = lineOf (engineOf w)
+
+-- the words after a call: those of the engine it left, or on a refusal as they were
+abbrev pub kept : ℕ → Engine → List ℕ → List ℕ
+kept answer s w = when (eqb answer 0) (wordsOf s) w
+
+-- a write: its answer's number and the words
+pub record WroteWords : Type 0 where
+  pub answer : ℕ
+  pub words : List ℕ
+
+abbrev pub wordsSeen : ℕ → List ℕ → WroteWords
+wordsSeen answer w = record { answer = answer; words = w }
+
+abbrev pub wroteWords : AfterWrite → List ℕ → WroteWords
+wroteWords r w = wordsSeen (r .answer) (kept (r .answer) (r .engine) w)
+
+abbrev pub writeWordsOf : List ℕ → ℕ → ℕ → WroteWords
+writeWordsOf w offset value = wroteWords (writeOf (engineOf w) offset value) w
+
+abbrev pub of : ℕ → ℕ → ℕ → ℕ → SteppedForC
+of answer event first second = record { answer = answer; event = event; first = first; second = second }
+
+-- an event's number, and the two numbers that a listing has for it
+abbrev pub told : ℕ → Event → SteppedForC
+told n None = of n 0 0 0
+told n (Fetch current) = of n 1 current 0
+told n (Move burst) = of n 2 (burst .start) (burst .bytes)
+told n (Fault destination bit) = of n 3 destination bit
+told n (Update current word) = of n 4 current word
+told n (Halt current bit) = of n 5 current bit
+
+-- a step: what is told of it, the words and the memory
+pub record SteppedWords : Type 0 where
+  pub told : SteppedForC
+  pub words : List ℕ
+  pub memory : List ℕ
+
+abbrev pub stepWordsSeen : SteppedForC → List ℕ → List ℕ → SteppedWords
+stepWordsSeen r w m = record { told = r; words = w; memory = m }
+
+abbrev pub steppedWords : AfterStep → List ℕ → SteppedWords
+steppedWords r w = stepWordsSeen (told (r .answer) (r .event)) (kept (r .answer) (r .engine) w) (r .memory)
+
+abbrev pub stepWordsOf : List ℕ → List ℕ → List ℕ → SteppedWords
+stepWordsOf w m windows = steppedWords (stepOf (engineOf w) m windows) w
+
+-- a run: its answer's number, the steps taken, the words and the memory
+pub record RanWords : Type 0 where
+  pub answer : ℕ
+  pub steps : ℕ
+  pub words : List ℕ
+  pub memory : List ℕ
+
+abbrev pub runWordsSeen : RanForC → List ℕ → List ℕ → RanWords
+runWordsSeen r w m = record { answer = r .answer; steps = r .steps; words = w; memory = m }
+
+abbrev pub ranWords : AfterRun → List ℕ → RanWords
+ranWords r w = record { answer = r .answer; steps = r .steps; words = kept (r .answer) (r .engine) w; memory = r .memory }
+
+abbrev pub runWordsOf : ℕ → List ℕ → List ℕ → List ℕ → RanWords
+runWordsOf most w m windows = ranWords (runOf most (engineOf w) m windows) w

@@ -1,0 +1,18 @@
+use borrow.Author.Needs.{needs}
+use Rattle.state.proofs.engine.interrupt_line.Statement.{statement}
+use Rattle.state.proofs.engine.interrupt_line.Tie as tie
+
+both-requires : tie.Need-both-requires
+both-requires c κs = search needs
+
+both-requires-2 : tie.Need-both-requires-2
+both-requires-2 c κs = search needs
+
+either-requires : tie.Need-either-requires
+either-requires c κs = search needs
+
+returns : tie.Need-returns
+returns c = cc
+
+pub interrupt-line-spec : {M : Type 1} → statement M
+interrupt-line-spec = tie.close (tie.spec both-requires both-requires-2 either-requires returns)

@@ -1,0 +1,93 @@
+-- A step and a run over all windows are those over the windows that a table takes: where some are left out, both are refused.
+use mathlib.Core.Path.{_≡_, refl, sym, ap, ap₂, _∙_}
+use mathlib.Core.Bool.{Bool, true, false}
+use mathlib.Core.List.{List, [], _∷_}
+use mathlib.Core.Logic.{_⊎_, inl, inr}
+use Prim.Native.Nat.{ℕ, _/_, _<_}
+use native.Mathlib.Omega.{arith}
+use lib.Dec.{ltb}
+use lib.ListN.{length, take}
+use lib.Seq.{take-all, length-take-le}
+use borrow.Author.Tests.{lt-ltb, ltb-true, ltb-false, ne-eqb}
+use Rattle.kit.specs.Choice.{when}
+use Rattle.kit.specs.Limits.{mostMemory, mostWindows}
+use Rattle.kit.specs.Settings.{legalOf}
+use Rattle.kit.proofs.Choice.{no, decide}
+use Rattle.memory.specs.declared.window.Window.{Window}
+use Rattle.memory.specs.Windows.{windowsOf}
+use Rattle.state.specs.declared.engine.Engine.{Engine}
+use Rattle.state.specs.State.{wellFormedOf}
+use Rattle.steps.specs.Step.{advanceOf}
+use Rattle.steps.specs.Run.{refusalOf, begun, walkFrom, stepped, stepOf, ran, runOf}
+use Rattle.windows.specs.Flat.{flatOf}
+use Rattle.windows.specs.Table.{most}
+use Rattle.windows.proofs.Copies.{flat-length}
+
+-- ---- the flat list and the windows say the same
+
+pub windows-flat : (ws : List Window) → windowsOf (flatOf ws) ≡ ws
+windows-flat [] = refl
+windows-flat (w ∷ ws) = ap (λ (more : List Window). w ∷ more) (windows-flat ws)
+
+flat-half : (ws : List Window) → length (flatOf ws) / 2 ≡ length ws
+flat-half ws = let h = flat-length ws in omega arith
+
+-- ---- too many windows
+
+-- past the limit a refusal does not ask how many there are, and is none of 0
+module _ (s : Engine) (size : ℕ) {m n : ℕ} (hm : mostWindows < m) (hn : mostWindows < n) where
+  refusal-many : refusalOf s size m ≡ refusalOf s size n
+  unfolding refusalOf
+  refusal-many =
+      ap (λ (t : Bool). when (legalOf (s .settings)) (when (ltb mostMemory size) 2 (when t 6 (when (wellFormedOf s) 0 9))) 1)
+      (lt-ltb mostWindows m hm ∙ sym (lt-ltb mostWindows n hn))
+
+refusal-some : (s : Engine) (size : ℕ) {m : ℕ} → mostWindows < m → refusalOf s size m ≡ 0 → ⊥
+unfolding refusalOf
+refusal-some s size {m} h e =
+    go (legalOf (s .settings)) (ltb mostMemory size) (ltb mostWindows m) (lt-ltb mostWindows m h) e
+  where
+    go : (t u v : Bool) → v ≡ true → _≡_ {A = ℕ} (when t (when u 2 (when v 6 (when (wellFormedOf s) 0 9))) 1) 0 → ⊥
+    go false u v p e = omega arith
+    go true true v p e = omega arith
+    go true false v p e = let z : _≡_ {A = ℕ} 6 0 = ap (λ (x : Bool). when x 6 (when (wellFormedOf s) 0 9)) (sym p) ∙ e in omega arith
+
+-- ---- a step and a run
+
+module _ (s : Engine) (m ns ks : List ℕ) (hn : mostWindows < length ns / 2) (hk : mostWindows < length ks / 2) where
+  step-many : stepOf s m ns ≡ stepOf s m ks
+  unfolding stepOf
+  step-many =
+      ap₂ stepped (refusal-many s (length m) hn hk)
+      (sym (no (advanceOf s m (windowsOf ns)) (ne-eqb (refusalOf s (length m) (length ns / 2)) 0 (refusal-some s (length m) hn)) refl)
+      ∙ no (advanceOf s m (windowsOf ks)) (ne-eqb (refusalOf s (length m) (length ks / 2)) 0 (refusal-some s (length m) hk)) refl)
+
+  run-many : (steps : ℕ) → runOf steps s m ns ≡ runOf steps s m ks
+  unfolding runOf
+  run-many steps =
+      ap₂ ran (refusal-many s (length m) hn hk)
+      (sym (no (walkFrom steps 0 (begun s m) (windowsOf ns)) (ne-eqb (refusalOf s (length m) (length ns / 2)) 0 (refusal-some s (length m) hn)) refl)
+      ∙ no (walkFrom steps 0 (begun s m) (windowsOf ks)) (ne-eqb (refusalOf s (length m) (length ks / 2)) 0 (refusal-some s (length m) hk)) refl)
+
+module _ (ws : List Window) where
+  few : ltb mostWindows (length ws) ≡ false → flatOf (take most ws) ≡ flatOf ws
+  few e = ap flatOf (take-all most ws (omega (arith, ltb-false mostWindows (length ws) e)))
+
+  many : ltb mostWindows (length ws) ≡ true → (mostWindows < length (flatOf (take most ws)) / 2) × (mostWindows < length (flatOf ws) / 2)
+  many e =
+      let long : mostWindows < length ws = ltb-true mostWindows (length ws) e in
+      (omega (arith, flat-half (take most ws), length-take-le most ws (omega arith)), omega (arith, flat-half ws))
+
+  pub step-fewer : (s : Engine) (m : List ℕ) → stepOf s m (flatOf (take most ws)) ≡ stepOf s m (flatOf ws)
+  step-fewer s m = go (decide (ltb mostWindows (length ws)))
+    where
+      go : (ltb mostWindows (length ws) ≡ true) ⊎ (ltb mostWindows (length ws) ≡ false) → stepOf s m (flatOf (take most ws)) ≡ stepOf s m (flatOf ws)
+      go (inl e) = step-many s m (flatOf (take most ws)) (flatOf ws) (many e .0) (many e .1)
+      go (inr e) = ap (stepOf s m) (few e)
+
+  pub run-fewer : (steps : ℕ) (s : Engine) (m : List ℕ) → runOf steps s m (flatOf (take most ws)) ≡ runOf steps s m (flatOf ws)
+  run-fewer steps s m = go (decide (ltb mostWindows (length ws)))
+    where
+      go : (ltb mostWindows (length ws) ≡ true) ⊎ (ltb mostWindows (length ws) ≡ false) → runOf steps s m (flatOf (take most ws)) ≡ runOf steps s m (flatOf ws)
+      go (inl e) = run-many s m (flatOf (take most ws)) (flatOf ws) (many e .0) (many e .1) steps
+      go (inr e) = ap (runOf steps s m) (few e)

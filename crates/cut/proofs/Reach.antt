@@ -1,5 +1,5 @@
 -- Laws of `reach`: a burst from a is legal exactly up to there, for any width and number of beats above 0.
-use mathlib.Core.Path.{_≡_, ap, sym, _∙_}
+use mathlib.Core.Path.{_≡_, ap, ap₂, sym, _∙_}
 use Prim.Native.Nat.{ℕ, _+_, _-_, _*_, _/_, _%_, _≤_, _<_, min}
 use native.Mathlib.Nat.{add-mul, mul-comm, mul-le-mul-right, lt-div-mul-add, div-lt-iff-lt-mul, le-div-iff-mul-le, div-mul-le-self, div-add-mod', mul-assoc, mul-mod-left, le-trans}
 use native.Mathlib.Omega.{arith}
@@ -8,8 +8,11 @@ use mathlib.Core.Logic.{_⊎_, inl, inr}
 use lib.Dec.{leb}
 use borrow.Author.Tests.{leb-true, leb-false}
 use Rattle.kit.proofs.Choice.{decide}
-use Rattle.cut.specs.Cut.{page, wordStart, endFrom, reach, burstEnd}
+use Rattle.cut.specs.Cut.{page, wordStart, endFrom, reach, burstEnd, bytesWithin, burstBytes}
 use Rattle.cut.specs.Legal.{Legal}
+
+min-less : (x y a : ℕ) → min x y - a ≡ min (x - a) (y - a)
+min-less x y a = omega arith
 
 module _ (w l : ℕ) where
   -- the word limit, reckoned from the start of a's word
@@ -19,6 +22,17 @@ module _ (w l : ℕ) where
   pub burst-end-from : (a e : ℕ) → endFrom (wordStart w a) (w * l) a e ≡ burstEnd w l a e
   unfolding burstEnd reach
   burst-end-from a e = ap (λ (k : ℕ). min (min ((a / page + 1) * page) k) e) (sym (span a))
+
+  -- a burst's end, as a length
+  pub burst-bytes : (a n : ℕ) → bytesWithin (w * l - a % w) a n ≡ burstBytes w l a n
+  unfolding burstEnd reach
+  burst-bytes a n =
+      let P = (a / page + 1) * page in
+      let Q = (a / w + l) * w in
+      let p : page - a % page ≡ P - a = omega arith in
+      let q : w * l - a % w ≡ Q - a = omega (arith, span a, div-add-mod' a w) in
+      let r : n ≡ a + n - a = omega arith in
+      ap₂ min (ap₂ min p q ∙ sym (min-less P Q a)) r ∙ sym (min-less (min P Q) (a + n) a)
 
   module _ (pw : 0 < w) where
     div-mono : {a b : ℕ} → a ≤ b → a / w ≤ b / w

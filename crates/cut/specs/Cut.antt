@@ -1,5 +1,5 @@
 -- Document 01, "Cutting a transfer": each burst reaches as far as is legal or to the end of the transfer.
-use Prim.Native.Nat.{ℕ, zero, suc, _+_, _-_, _*_, _/_, min}
+use Prim.Native.Nat.{ℕ, zero, suc, _+_, _-_, _*_, _/_, _%_, min}
 use mathlib.Core.Bool.{true, false}
 use mathlib.Core.List.{List, [], _∷_}
 use lib.Dec.{ltb}
@@ -23,6 +23,14 @@ reach w l a = min ((a / page + 1) * page) ((a / w + l) * w)
 -- where the first burst of a transfer from a up to e ends
 unfoldable pub burstEnd : ℕ → ℕ → ℕ → ℕ → ℕ
 burstEnd w l a e = min (reach w l a) e
+
+-- the bytes of the first burst of a transfer that has n bytes to go from a
+abbrev pub burstBytes : ℕ → ℕ → ℕ → ℕ → ℕ
+burstBytes w l a n = burstEnd w l a (a + n) - a
+
+-- the least of: what is left of a's page, `words` bytes, and the n bytes to go
+abbrev pub bytesWithin : ℕ → ℕ → ℕ → ℕ
+bytesWithin words a n = min (min (page - a % page) words) n
 
 -- the burst from a up to, not including, b
 abbrev pub burst : ℕ → ℕ → Burst

@@ -1,7 +1,7 @@
 // Document 01, "Cutting a transfer": where the burst that starts at a byte ends.
 ghost use mathlib.Core.Path.{_≡_};
-ghost use Prim.Native.Nat.{_+_, _*_, _/_, _<_, _≤_, _^_, min};
-ghost use Rattle.cut.specs.Cut.{page, wordStart, endFrom, burstEnd};
+ghost use Prim.Native.Nat.{_+_, _-_, _*_, _/_, _%_, _<_, _≤_, _^_, min};
+ghost use Rattle.cut.specs.Cut.{page, wordStart, endFrom, burstEnd, bytesWithin, burstBytes};
 
 // One burst: its first byte and its number of bytes.
 pub struct Burst {
@@ -54,4 +54,46 @@ pub fn burst_end(width: u32, beats: u32, at: u64, end: u64) -> u64
     ensures { λ r. ⌜ r ≡ burstEnd width beats at end ⌝ }
 {
     end_from(word_start(width, at), width as u64 * beats as u64, at, end)
+}
+
+// How far the byte at `at` is past the start of its aligned word. A division by the width would cost more than the rest
+// of a step, so each legal width has its own constant one.
+fn word_offset(width: u32, at: u64) -> u64
+    requires { ⌜ 0 < width ⌝ }
+    ensures { λ r. ⌜ r ≡ at % width ⌝ }
+{
+    match width {
+        4 => at % 4,
+        8 => at % 8,
+        16 => at % 16,
+        32 => at % 32,
+        64 => at % 64,
+        128 => at % 128,
+        _ => at % (width as u64),
+    }
+}
+
+// The bytes from `at` to the end of the last aligned word that a burst from there may touch.
+pub fn words_left(width: u32, beats: u32, at: u64) -> u64
+    requires { ⌜ 0 < width ⌝ }
+    requires { ⌜ 0 < beats ⌝ }
+    ensures { λ r. ⌜ r ≡ width * beats - at % width ⌝ }
+{
+    width as u64 * beats as u64 - word_offset(width, at)
+}
+
+// The least of: what is left of the page of `at`, `words` bytes, and what is left of the transfer.
+pub fn bytes_within(words: u64, at: u64, left: u32) -> u32
+    ensures { λ r. ⌜ r ≡ bytesWithin words at left ⌝ }
+{
+    least(least(PAGE - at % PAGE, words), left as u64) as u32
+}
+
+// The bytes of the first burst of a transfer that has `left` bytes to go from `at`.
+pub fn burst_bytes(width: u32, beats: u32, at: u64, left: u32) -> u32
+    requires { ⌜ 0 < width ⌝ }
+    requires { ⌜ 0 < beats ⌝ }
+    ensures { λ r. ⌜ r ≡ burstBytes width beats at left ⌝ }
+{
+    bytes_within(words_left(width, beats, at), at, left)
 }

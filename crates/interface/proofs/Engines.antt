@@ -16,21 +16,21 @@ use Rattle.state.specs.declared.engine.Phase.{Phase}
 use Rattle.state.specs.declared.engine.Phase.the-variants.{Idle, Fetch, Move, Update}
 use Rattle.state.specs.State.{freshOf, wellFormedOf}
 use Rattle.state.specs.Bits.{errorBitOf}
-use Rattle.interface.specs.EngineWords.{truth, phaseNumberOf, movingOf, wordsOf, errorBitFrom, phaseFrom, settingsFrom, engineFrom, sameWords, lostOf, engineOf}
+use Rattle.interface.specs.EngineWords.{truth, phaseNumberOf, movingOf, wordsOf, errorBitFrom, phaseFrom, settingsFrom, engineFrom, sameWords, illFormedOf, engineOf}
 use Rattle.interface.proofs.Same.{same-equal, same-itself}
 
 -- words that spell e are those of e, or not
-module _ (w : List ℕ) {e : Engine} {again : List ℕ} {t : Bool} (spelled : e ≡ engineFrom w) (stored : again ≡ wordsOf e) (told : t ≡ sameWords w again) where
+module _ (w : List ℕ) {e : Engine} {again : List ℕ} {t : Bool} (decoded : e ≡ engineFrom w) (stored : again ≡ wordsOf e) (told : t ≡ sameWords w again) where
   test : t ≡ sameWords w (wordsOf (engineFrom w))
-  test = told ∙ ap (λ (l : List ℕ). sameWords w l) (stored ∙ ap (λ (s : Engine). wordsOf s) spelled)
+  test = told ∙ ap (λ (l : List ℕ). sameWords w l) (stored ∙ ap (λ (s : Engine). wordsOf s) decoded)
 
   pub held : t ≡ true → e ≡ engineOf w
   unfolding engineOf
-  held h = yes (lostOf (settingsFrom w)) (sym test ∙ h) spelled
+  held h = yes (illFormedOf (settingsFrom w)) (sym test ∙ h) decoded
 
-  pub not-held : {r : Engine} → t ≡ false → r ≡ lostOf (e .settings) → r ≡ engineOf w
+  pub not-held : {r : Engine} → t ≡ false → r ≡ illFormedOf (e .settings) → r ≡ engineOf w
   unfolding engineOf
-  not-held h l = no (engineFrom w) (sym test ∙ h) (l ∙ ap (λ (s : Engine). lostOf (s .settings)) spelled)
+  not-held h l = no (engineFrom w) (sym test ∙ h) (l ∙ ap (λ (s : Engine). illFormedOf (s .settings)) decoded)
 
 truth-back : (b : Bool) → eqb (truth b) 1 ≡ b
 truth-back true = refl
@@ -56,8 +56,8 @@ phase-back (Update Internal) = refl
 phase-back (Update Slave) = refl
 phase-back (Update Decode) = refl
 
-spelled-back : (s : Engine) → engineFrom (wordsOf s) ≡ s
-spelled-back s =
+engine-from-back : (s : Engine) → engineFrom (wordsOf s) ≡ s
+engine-from-back s =
     λ i. record {
       settings = s .settings;
       control = record {
@@ -79,8 +79,8 @@ spelled-back s =
 pub stored-back : (s : Engine) → engineOf (wordsOf s) ≡ s
 unfolding engineOf
 stored-back s =
-    let same = ap (λ (x : Engine). sameWords (wordsOf s) (wordsOf x)) (spelled-back s) ∙ same-itself (wordsOf s) in
-    sym (yes (lostOf (s .settings)) same (sym (spelled-back s)))
+    let same = ap (λ (x : Engine). sameWords (wordsOf s) (wordsOf x)) (engine-from-back s) ∙ same-itself (wordsOf s) in
+    sym (yes (illFormedOf (s .settings)) same (sym (engine-from-back s)))
 
 -- an engine has one list of words
 pub words-differ : (s t : Engine) → wordsOf s ≡ wordsOf t → s ≡ t
@@ -92,7 +92,7 @@ unfolding engineOf wellFormedOf
 read-back w = go (sameWords w (wordsOf (engineFrom w))) refl
   where
     go : (t : Bool) → sameWords w (wordsOf (engineFrom w)) ≡ t
-        → (wordsOf (when t (engineFrom w) (lostOf (settingsFrom w))) ≡ w) ⊎ (wellFormedOf (when t (engineFrom w) (lostOf (settingsFrom w))) ≡ false)
+        → (wordsOf (when t (engineFrom w) (illFormedOf (settingsFrom w))) ≡ w) ⊎ (wellFormedOf (when t (engineFrom w) (illFormedOf (settingsFrom w))) ≡ false)
     go true e = inl (sym (same-equal w (wordsOf (engineFrom w)) e))
     go false e = inr refl
 

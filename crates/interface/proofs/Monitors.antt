@@ -15,10 +15,10 @@ use Rattle.monitor.specs.Monitor.{lowestOf, Seen, seen, busClockOf}
 use Rattle.interface.specs.declared.monitor_words.ClockForC.{ClockForC}
 use Rattle.interface.specs.declared.bus.ClockedForC.{ClockedForC}
 use Rattle.interface.specs.EngineWords.{word}
-use Rattle.interface.specs.MonitorWords.{bitIf, clockFrom, lowOf, highOf, joined, monitorWordsOf, monitorFrom}
+use Rattle.interface.specs.MonitorWords.{bitIf, clockFrom, lowOf, highOf, flagsFrom, monitorWordsOf, monitorFrom}
 use Rattle.interface.specs.Clocks.{ClockedWords, clockedSeen, refusedOf, clockedWords, busClockWordsOf}
 
-flags-back : (flags : ℕ) → joined (lowOf flags) (highOf flags) ≡ flags
+flags-back : (flags : ℕ) → flagsFrom (lowOf flags) (highOf flags) ≡ flags
 flags-back flags = omega arith
 
 -- three truths as a number of three bits

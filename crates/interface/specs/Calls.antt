@@ -33,22 +33,22 @@ abbrev pub lineWordsOf : List ℕ → Value
 lineWordsOf w = lineOf (engineOf w)
 
 -- the words after a call: those of the engine it left, or on a refusal as they were
-abbrev pub kept : ℕ → Engine → List ℕ → List ℕ
-kept answer s w = when (eqb answer 0) (wordsOf s) w
+abbrev pub wordsAfter : ℕ → Engine → List ℕ → List ℕ
+wordsAfter answer s w = when (eqb answer 0) (wordsOf s) w
 
 -- a write: its answer's number and the words
-pub record WroteWords : Type 0 where
+pub record WordsAfterWrite : Type 0 where
   pub answer : ℕ
   pub words : List ℕ
 
-abbrev pub wordsSeen : ℕ → List ℕ → WroteWords
+abbrev pub wordsSeen : ℕ → List ℕ → WordsAfterWrite
 wordsSeen answer w = record { answer = answer; words = w }
 
-abbrev pub wroteWords : AfterWrite → List ℕ → WroteWords
-wroteWords r w = wordsSeen (r .answer) (kept (r .answer) (r .engine) w)
+abbrev pub wordsAfterWrite : AfterWrite → List ℕ → WordsAfterWrite
+wordsAfterWrite r w = wordsSeen (r .answer) (wordsAfter (r .answer) (r .engine) w)
 
-abbrev pub writeWordsOf : List ℕ → ℕ → ℕ → WroteWords
-writeWordsOf w offset value = wroteWords (writeOf (engineOf w) offset value) w
+abbrev pub writeWordsOf : List ℕ → ℕ → ℕ → WordsAfterWrite
+writeWordsOf w offset value = wordsAfterWrite (writeOf (engineOf w) offset value) w
 
 abbrev pub of : ℕ → ℕ → ℕ → ℕ → SteppedForC
 of answer event first second = record { answer = answer; event = event; first = first; second = second }
@@ -63,32 +63,32 @@ told n (Update current word) = of n 4 current word
 told n (Halt current bit) = of n 5 current bit
 
 -- a step: what is told of it, the words and the memory
-pub record SteppedWords : Type 0 where
+pub record WordsAfterStep : Type 0 where
   pub told : SteppedForC
   pub words : List ℕ
   pub memory : List ℕ
 
-abbrev pub stepWordsSeen : SteppedForC → List ℕ → List ℕ → SteppedWords
+abbrev pub stepWordsSeen : SteppedForC → List ℕ → List ℕ → WordsAfterStep
 stepWordsSeen r w m = record { told = r; words = w; memory = m }
 
-abbrev pub steppedWords : AfterStep → List ℕ → SteppedWords
-steppedWords r w = stepWordsSeen (told (r .answer) (r .event)) (kept (r .answer) (r .engine) w) (r .memory)
+abbrev pub wordsAfterStep : AfterStep → List ℕ → WordsAfterStep
+wordsAfterStep r w = stepWordsSeen (told (r .answer) (r .event)) (wordsAfter (r .answer) (r .engine) w) (r .memory)
 
-abbrev pub stepWordsOf : List ℕ → List ℕ → List ℕ → SteppedWords
-stepWordsOf w m windows = steppedWords (stepOf (engineOf w) m windows) w
+abbrev pub stepWordsOf : List ℕ → List ℕ → List ℕ → WordsAfterStep
+stepWordsOf w m windows = wordsAfterStep (stepOf (engineOf w) m windows) w
 
 -- a run: its answer's number, the steps taken, the words and the memory
-pub record RanWords : Type 0 where
+pub record WordsAfterRun : Type 0 where
   pub answer : ℕ
   pub steps : ℕ
   pub words : List ℕ
   pub memory : List ℕ
 
-abbrev pub runWordsSeen : RanForC → List ℕ → List ℕ → RanWords
+abbrev pub runWordsSeen : RanForC → List ℕ → List ℕ → WordsAfterRun
 runWordsSeen r w m = record { answer = r .answer; steps = r .steps; words = w; memory = m }
 
-abbrev pub ranWords : AfterRun → List ℕ → RanWords
-ranWords r w = record { answer = r .answer; steps = r .steps; words = kept (r .answer) (r .engine) w; memory = r .memory }
+abbrev pub wordsAfterRun : AfterRun → List ℕ → WordsAfterRun
+wordsAfterRun r w = record { answer = r .answer; steps = r .steps; words = wordsAfter (r .answer) (r .engine) w; memory = r .memory }
 
-abbrev pub runWordsOf : ℕ → List ℕ → List ℕ → List ℕ → RanWords
-runWordsOf most w m windows = ranWords (runOf most (engineOf w) m windows) w
+abbrev pub runWordsOf : ℕ → List ℕ → List ℕ → List ℕ → WordsAfterRun
+runWordsOf most w m windows = wordsAfterRun (runOf most (engineOf w) m windows) w

@@ -110,9 +110,9 @@ sameWords (x ∷ xs) [] = false
 sameWords (x ∷ xs) (y ∷ ys) = both (eqb x y) (sameWords xs ys)
 
 -- an engine of these settings that is not well formed: its current pointer is no multiple of 64
-abbrev pub lostOf : Settings → Engine
-lostOf settings = withPointers (freshOf settings) (record { current = 1; tail = 0; next = 0; heldnext = 0 })
+abbrev pub illFormedOf : Settings → Engine
+illFormedOf settings = withPointers (freshOf settings) (record { current = 1; tail = 0; next = 0; heldnext = 0 })
 
 -- the engine of any 20 numbers: those that are not the words of the engine they spell are one that is not well formed
 unfoldable pub engineOf : List ℕ → Engine
-engineOf w = when (sameWords w (wordsOf (engineFrom w))) (engineFrom w) (lostOf (settingsFrom w))
+engineOf w = when (sameWords w (wordsOf (engineFrom w))) (engineFrom w) (illFormedOf (settingsFrom w))

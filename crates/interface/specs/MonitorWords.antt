@@ -39,8 +39,8 @@ lowOf flags = flags % 2 ^ 32
 abbrev pub highOf : ℕ → ℕ
 highOf flags = flags / 2 ^ 32
 
-abbrev pub joined : ℕ → ℕ → ℕ
-joined low high = low + 2 ^ 32 * high
+abbrev pub flagsFrom : ℕ → ℕ → ℕ
+flagsFrom low high = low + 2 ^ 32 * high
 
 -- a monitor's words
 abbrev pub monitorWordsOf : Monitor → List ℕ
@@ -66,4 +66,4 @@ fieldsFrom w = record {
 }
 
 abbrev pub monitorFrom : List ℕ → Monitor
-monitorFrom w = record { flags = joined (word w 0) (word w 1); snapshot = joined (word w 2) (word w 3); before = clockFrom (fieldsFrom w) }
+monitorFrom w = record { flags = flagsFrom (word w 0) (word w 1); snapshot = flagsFrom (word w 2) (word w 3); before = clockFrom (fieldsFrom w) }

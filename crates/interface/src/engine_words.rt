@@ -12,7 +12,7 @@ use state::engine::Transfer;
 use state::engine::bit_number;
 use state::engine::fresh;
 ghost use mathlib.Core.Path.{_≡_};
-ghost use Rattle.interface.specs.EngineWords.{truth as truthOf, phaseNumberOf, movingOf, wordsOf, errorBitFrom, phaseFrom, settingsFrom, controlFrom, statusFrom, pointersFrom, simpleFrom, transferFrom, engineFrom, sameWords, lostOf, engineOf};
+ghost use Rattle.interface.specs.EngineWords.{truth as truthOf, phaseNumberOf, movingOf, wordsOf, errorBitFrom, phaseFrom, settingsFrom, controlFrom, statusFrom, pointersFrom, simpleFrom, transferFrom, engineFrom, sameWords, illFormedOf, engineOf};
 
 fn truth(set: bool) -> u32
     ensures { λ r. ⌜ r ≡ truthOf set ⌝ }
@@ -176,7 +176,7 @@ fn transfer(words: &[u32; 20]) -> Transfer
 }
 
 // The engine that the words spell, whether or not an engine has such words.
-fn spelled(words: &[u32; 20]) -> Engine
+fn engine_from(words: &[u32; 20]) -> Engine
     ensures { λ r. ⌜ r ≡ engineFrom (now (words .entry)) ⌝ }
 {
     let transfer = transfer(words);
@@ -207,8 +207,8 @@ fn same(words: &[u32], others: &[u32]) -> bool
 }
 
 // Words that no engine has stand for one that is not well formed, so that each call on them is answered in its order.
-fn lost(settings: Settings) -> Engine
-    ensures { λ r. ⌜ r ≡ lostOf settings ⌝ }
+fn ill_formed(settings: Settings) -> Engine
+    ensures { λ r. ⌜ r ≡ illFormedOf settings ⌝ }
 {
     let engine = fresh(settings);
     Engine {
@@ -225,12 +225,12 @@ fn lost(settings: Settings) -> Engine
 pub fn load(words: &[u32; 20]) -> Engine
     ensures { λ r. ⌜ r ≡ engineOf (now (words .entry)) ⌝ }
 {
-    let engine = spelled(words);
+    let engine = engine_from(words);
     let mut again = [0u32; 20];
     store(engine, &mut again);
     if same(words, &again) {
         engine
     } else {
-        lost(engine.settings)
+        ill_formed(engine.settings)
     }
 }

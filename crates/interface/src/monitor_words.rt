@@ -3,7 +3,7 @@ use monitor::clock::Clock;
 use monitor::monitor::Monitor;
 ghost use mathlib.Core.Path.{_≡_};
 ghost use Prim.Native.Nat.{_≤_};
-ghost use Rattle.interface.specs.MonitorWords.{bitIf, bitsOf, lowOf, highOf, joined as joinedOf, clockFrom, fieldsFrom, monitorFrom, monitorWordsOf};
+ghost use Rattle.interface.specs.MonitorWords.{bitIf, bitsOf, lowOf, highOf, flagsFrom, clockFrom, fieldsFrom, monitorFrom, monitorWordsOf};
 
 // The fields of a clock; bit 0 of `bits` is reset-high, bit 1 valid, bit 2 ready.
 #[repr(C)]
@@ -64,8 +64,8 @@ fn high(flags: u64) -> u32
     (flags / 4294967296) as u32
 }
 
-fn joined(low: u32, high: u32) -> u64
-    ensures { λ r. ⌜ r ≡ joinedOf low high ⌝ }
+fn flags_from(low: u32, high: u32) -> u64
+    ensures { λ r. ⌜ r ≡ flagsFrom low high ⌝ }
 {
     low as u64 + 4294967296 * high as u64
 }
@@ -91,8 +91,8 @@ pub fn load(words: &[u32; 14]) -> Monitor
     ensures { λ r. ⌜ r ≡ monitorFrom (now (words .entry)) ⌝ }
 {
     let before = clock(fields(words));
-    let flags = joined(words[0], words[1]);
-    let snapshot = joined(words[2], words[3]);
+    let flags = flags_from(words[0], words[1]);
+    let snapshot = flags_from(words[2], words[3]);
     Monitor {
         flags,
         snapshot,

@@ -18,7 +18,7 @@ use Rattle.memory.specs.Windows.{windowsOf}
 use Rattle.state.specs.declared.engine.Engine.{Engine}
 use Rattle.state.specs.State.{wellFormedOf}
 use Rattle.steps.specs.Step.{advanceOf}
-use Rattle.steps.specs.Run.{refusalOf, begun, walkFrom, stepped, stepOf, ran, runOf}
+use Rattle.steps.specs.Run.{refusalOf, begun, walkFrom, stepAnswer, stepOf, runAnswer, runOf}
 use Rattle.windows.specs.Flat.{flatOf}
 use Rattle.windows.specs.Table.{most}
 use Rattle.windows.proofs.Copies.{flat-length}
@@ -58,14 +58,14 @@ module _ (s : Engine) (m ns ks : List ℕ) (hn : mostWindows < length ns / 2) (h
   step-many : stepOf s m ns ≡ stepOf s m ks
   unfolding stepOf
   step-many =
-      ap₂ stepped (refusal-many s (length m) hn hk)
+      ap₂ stepAnswer (refusal-many s (length m) hn hk)
       (sym (no (advanceOf s m (windowsOf ns)) (ne-eqb (refusalOf s (length m) (length ns / 2)) 0 (refusal-some s (length m) hn)) refl)
       ∙ no (advanceOf s m (windowsOf ks)) (ne-eqb (refusalOf s (length m) (length ks / 2)) 0 (refusal-some s (length m) hk)) refl)
 
   run-many : (steps : ℕ) → runOf steps s m ns ≡ runOf steps s m ks
   unfolding runOf
   run-many steps =
-      ap₂ ran (refusal-many s (length m) hn hk)
+      ap₂ runAnswer (refusal-many s (length m) hn hk)
       (sym (no (walkFrom steps 0 (begun s m) (windowsOf ns)) (ne-eqb (refusalOf s (length m) (length ns / 2)) 0 (refusal-some s (length m) hn)) refl)
       ∙ no (walkFrom steps 0 (begun s m) (windowsOf ks)) (ne-eqb (refusalOf s (length m) (length ks / 2)) 0 (refusal-some s (length m) hk)) refl)
 

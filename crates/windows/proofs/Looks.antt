@@ -17,37 +17,37 @@ use Rattle.memory.specs.declared.verdict.Verdict.the-variants.{Okay, Slave}
 use Rattle.memory.specs.Interval.{touchesOf}
 use Rattle.memory.specs.Verdict.{groupOf}
 use Rattle.memory.proofs.Groups.{hit, group-none, group-decode, group-slave, group-okay}
-use Rattle.windows.specs.Lookup.{among, pastOf, decideOf}
+use Rattle.windows.specs.Lookup.{touchedOf, pastOf, decideOf}
 
 -- ---- the windows from the i-th on
 
 module _ (ws : List Window) (a e i : ℕ) where
-  pub among-step : (d : Window) → i < length ws → among (drop i ws) a e ≡ either (touchesOf (getD ws i d) a e) (among (drop (i + 1) ws) a e)
-  unfolding among
-  among-step d h =
-      ap (λ (l : List Window). among l a e) (drop-cons ws i d h)
-      ∙ ap (λ (n : ℕ). either (touchesOf (getD ws i d) a e) (among (drop n ws) a e)) (sym (add-one i))
+  pub touchedOf-step : (d : Window) → i < length ws → touchedOf (drop i ws) a e ≡ either (touchesOf (getD ws i d) a e) (touchedOf (drop (i + 1) ws) a e)
+  unfolding touchedOf
+  touchedOf-step d h =
+      ap (λ (l : List Window). touchedOf l a e) (drop-cons ws i d h)
+      ∙ ap (λ (n : ℕ). either (touchesOf (getD ws i d) a e) (touchedOf (drop n ws) a e)) (sym (add-one i))
 
-  pub among-here : (d : Window) → i < length ws → touchesOf (getD ws i d) a e ≡ true → true ≡ among (drop i ws) a e
-  among-here d h t = sym (among-step d h ∙ ap (λ (x : Bool). either x (among (drop (i + 1) ws) a e)) t)
+  pub touchedOf-here : (d : Window) → i < length ws → touchesOf (getD ws i d) a e ≡ true → true ≡ touchedOf (drop i ws) a e
+  touchedOf-here d h t = sym (touchedOf-step d h ∙ ap (λ (x : Bool). either x (touchedOf (drop (i + 1) ws) a e)) t)
 
-  pub among-on : (d : Window) → i < length ws → touchesOf (getD ws i d) a e ≡ false → among (drop (i + 1) ws) a e ≡ among (drop i ws) a e
-  among-on d h t = sym (among-step d h ∙ ap (λ (x : Bool). either x (among (drop (i + 1) ws) a e)) t)
+  pub touchedOf-on : (d : Window) → i < length ws → touchesOf (getD ws i d) a e ≡ false → touchedOf (drop (i + 1) ws) a e ≡ touchedOf (drop i ws) a e
+  touchedOf-on d h t = sym (touchedOf-step d h ∙ ap (λ (x : Bool). either x (touchedOf (drop (i + 1) ws) a e)) t)
 
-  pub among-end : length ws ≤ i → false ≡ among (drop i ws) a e
-  unfolding among
-  among-end h = ap (λ (l : List Window). among l a e) (sym (drop-of-length-le ws h))
+  pub touchedOf-end : length ws ≤ i → false ≡ touchedOf (drop i ws) a e
+  unfolding touchedOf
+  touchedOf-end h = ap (λ (l : List Window). touchedOf l a e) (sym (drop-of-length-le ws h))
 
 -- ---- the verdict
 
-among-hit : (ws : List Window) (a e : ℕ) → among ws a e ≡ hit ws a e
-unfolding among
-among-hit [] a e = refl
-among-hit (w ∷ ws) a e = ap (either (touchesOf w a e)) (among-hit ws a e)
+touchedOf-hit : (ws : List Window) (a e : ℕ) → touchedOf ws a e ≡ hit ws a e
+unfolding touchedOf
+touchedOf-hit [] a e = refl
+touchedOf-hit (w ∷ ws) a e = ap (either (touchesOf w a e)) (touchedOf-hit ws a e)
 
 module _ (size : ℕ) (ws : List Window) (a n : ℕ) (small : size < 2 ^ 64) where
   abbrev Judged : Type 0
-  Judged = decideOf size a n (among ws a (pastOf a n)) ≡ groupOf size ws a n
+  Judged = decideOf size a n (touchedOf ws a (pastOf a n)) ≡ groupOf size ws a n
 
   past-is : a + n ≤ size → pastOf a n ≡ a + n
   unfolding pastOf
@@ -58,7 +58,7 @@ module _ (size : ℕ) (ws : List Window) (a n : ℕ) (small : size < 2 ^ 64) whe
   unfolding decideOf
   fitting h f b t =
       sym (no _ (ne-eqb n 0 (omega arith)) (no _ (le-ltb size (a + n) f) refl))
-      ∙ ap (λ (x : Bool). when x Slave Okay) (among-hit ws a (pastOf a n) ∙ ap (hit ws a) (past-is f) ∙ t)
+      ∙ ap (λ (x : Bool). when x Slave Okay) (touchedOf-hit ws a (pastOf a n) ∙ ap (hit ws a) (past-is f) ∙ t)
       ∙ go b t
     where
       go : (b : Bool) → hit ws a (a + n) ≡ b → when b Slave Okay ≡ groupOf size ws a n

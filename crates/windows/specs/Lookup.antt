@@ -10,9 +10,9 @@ use Rattle.memory.specs.declared.verdict.Verdict.the-variants.{Okay, Slave, Dec
 use Rattle.memory.specs.Interval.{touchesOf}
 
 -- one of the windows touches the bytes from a up to e
-unfoldable pub among : List Window → ℕ → ℕ → Bool
-among [] a e = false
-among (w ∷ more) a e = either (touchesOf w a e) (among more a e)
+unfoldable pub touchedOf : List Window → ℕ → ℕ → Bool
+touchedOf [] a e = false
+touchedOf (w ∷ more) a e = either (touchesOf w a e) (touchedOf more a e)
 
 -- one past the n bytes from a on, or the greatest number of 64 bits
 unfoldable pub pastOf : ℕ → ℕ → ℕ

@@ -21,11 +21,11 @@ abbrev pub copiedOf : ℕ → ℕ
 copiedOf n = when (ltb mostWindows n) most n
 
 -- the numbers in use
-abbrev pub written : Table → List ℕ
-written t = take (t .count) (t .flat)
+abbrev pub inUse : Table → List ℕ
+inUse t = take (t .count) (t .flat)
 
 -- the table has these numbers, and no more than its room
 pub record Has (t : Table) (numbers : List ℕ) : Type 0 where
   pub whole : length (t .flat) ≡ room
   pub fits : t .count ≤ room
-  pub holds : written t ≡ numbers
+  pub holds : inUse t ≡ numbers

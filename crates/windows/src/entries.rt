@@ -8,7 +8,7 @@ use steps::run::Stepped;
 ghost use mathlib.Core.Path.{_≡_};
 ghost use Rattle.steps.specs.Run.{stepOf, stepSeen, runOf, runSeen};
 ghost use Rattle.windows.specs.Flat.{flatOf};
-ghost use Rattle.windows.specs.Table.{written, Has};
+ghost use Rattle.windows.specs.Table.{inUse, Has};
 
 // The windows are copied once, as numbers, so that the step and its proof stay those of `steps`.
 pub fn step(engine: Engine, memory: &mut [u8], windows: &[Window]) -> Stepped
@@ -28,8 +28,8 @@ pub fn run(engine: Engine, memory: &mut [u8], windows: &[Window], most: u16) -> 
 
 // The numbers in use are lent to the step itself.
 fn step_table(engine: Engine, memory: &mut [u8], table: Table) -> Stepped
-    requires { ⌜ Has table (written table) ⌝ }
-    ensures { λ r. ⌜ stepSeen r (now (memory .exit)) ≡ stepOf engine (now (memory .entry)) (written table) ⌝ }
+    requires { ⌜ Has table (inUse table) ⌝ }
+    ensures { λ r. ⌜ stepSeen r (now (memory .exit)) ≡ stepOf engine (now (memory .entry)) (inUse table) ⌝ }
 {
     let flat = table.flat;
     let count = table.count;
@@ -38,8 +38,8 @@ fn step_table(engine: Engine, memory: &mut [u8], table: Table) -> Stepped
 
 // Likewise, to the run.
 fn run_table(engine: Engine, memory: &mut [u8], table: Table, most: u16) -> Ran
-    requires { ⌜ Has table (written table) ⌝ }
-    ensures { λ r. ⌜ runSeen r (now (memory .exit)) ≡ runOf most engine (now (memory .entry)) (written table) ⌝ }
+    requires { ⌜ Has table (inUse table) ⌝ }
+    ensures { λ r. ⌜ runSeen r (now (memory .exit)) ≡ runOf most engine (now (memory .entry)) (inUse table) ⌝ }
 {
     let flat = table.flat;
     let count = table.count;

@@ -4,7 +4,7 @@ use memory::window::Window;
 use memory::window::touches;
 ghost use mathlib.Core.Path.{_≡_};
 ghost use Rattle.memory.specs.Verdict.{groupOf};
-ghost use Rattle.windows.specs.Lookup.{among, pastOf, decideOf};
+ghost use Rattle.windows.specs.Lookup.{touchedOf, pastOf, decideOf};
 
 // The verdict of the `bytes` bytes from `start` on, in a memory of `size` bytes.
 pub fn judge(size: usize, windows: &[Window], start: u64, bytes: u64) -> Verdict
@@ -17,7 +17,7 @@ pub fn judge(size: usize, windows: &[Window], start: u64, bytes: u64) -> Verdict
 
 // Whether one of the windows has one of the bytes from `start` up to, not including, `end`.
 fn sick_among(windows: &[Window], start: u64, end: u64) -> bool
-    ensures { λ r. ⌜ r ≡ among (now (windows .entry)) start end ⌝ }
+    ensures { λ r. ⌜ r ≡ touchedOf (now (windows .entry)) start end ⌝ }
 {
     let mut i = 0;
     while i < windows.len() {

@@ -6,7 +6,7 @@ ghost use mathlib.Core.List.{[], _∷_, _++_};
 ghost use Prim.Native.Nat.{_+_, _≤_};
 ghost use lib.ListN.{take};
 ghost use Rattle.windows.specs.Flat.{flatOf};
-ghost use Rattle.windows.specs.Table.{most, copiedOf, room, written, Has};
+ghost use Rattle.windows.specs.Table.{most, copiedOf, room, inUse, Has};
 
 // The first `count` numbers of `flat` are in use. It has room for one window more than a step allows, so that too many
 // windows stay too many.
@@ -52,8 +52,8 @@ fn none() -> Table
 
 // Start and length go after the numbers in use.
 fn add(table: Table, window: Window) -> Table
-    requires { ⌜ Has table (written table) × (table .count + 2 ≤ room) ⌝ }
-    ensures { λ r. ⌜ Has r (written table ++ (window .start ∷ window .length ∷ [])) ⌝ }
+    requires { ⌜ Has table (inUse table) × (table .count + 2 ≤ room) ⌝ }
+    ensures { λ r. ⌜ Has r (inUse table ++ (window .start ∷ window .length ∷ [])) ⌝ }
 {
     let count = table.count;
     let mut flat = table.flat;

@@ -8,8 +8,8 @@ use borrow.Author.Needs.{needs}
 use Rattle.interface.proofs.engine_words.load.Statement.{statement}
 use Rattle.interface.proofs.engine_words.load.Tie as tie
 
-spelled-requires : tie.Need-spelled-requires
-spelled-requires c κs = search needs
+engine-from-requires : tie.Need-engine-from-requires
+engine-from-requires c κs = search needs
 
 store-requires : tie.Need-store-requires
 store-requires c κs = search needs
@@ -20,23 +20,23 @@ slice-aggregate-same c = sym (ap (λ (l : List ℕ). length l) (c .before .befor
 same-requires : tie.Need-same-requires
 same-requires c κs = search needs
 
-lost-requires : tie.Need-lost-requires
-lost-requires c κs = search needs
+ill-formed-requires : tie.Need-ill-formed-requires
+ill-formed-requires c κs = search needs
 
 returns : tie.Need-returns
-returns c = held (now (c .before .before .before .before .before .before .before .args .words)) (c .before .before .before .before .before .before .spelled .ensures) (c .before .before .before .before .store .ensures) (c .before .same .ensures) (c .if1 .taken)
+returns c = held (now (c .before .before .before .before .before .before .before .args .words)) (c .before .before .before .before .before .before .engine-from .ensures) (c .before .before .before .before .store .ensures) (c .before .same .ensures) (c .if1 .taken)
 
 returns-2 : tie.Need-returns-2
-returns-2 c = not-held (now (c .before .before .before .before .before .before .before .before .args .words)) (c .before .before .before .before .before .before .before .spelled .ensures) (c .before .before .before .before .before .store .ensures) (c .before .before .same .ensures) (c .before .if1 .left) (c .lost .ensures)
+returns-2 c = not-held (now (c .before .before .before .before .before .before .before .before .args .words)) (c .before .before .before .before .before .before .before .engine-from .ensures) (c .before .before .before .before .before .store .ensures) (c .before .before .same .ensures) (c .before .if1 .left) (c .ill-formed .ensures)
 
 pub load-spec : {M : Type 1} → statement M
 load-spec =
     tie.close
     (tie.spec
-    spelled-requires
+    engine-from-requires
     store-requires
     slice-aggregate-same
     same-requires
-    lost-requires
+    ill-formed-requires
     returns
     returns-2)

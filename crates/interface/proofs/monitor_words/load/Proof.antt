@@ -11,28 +11,28 @@ fields-requires c κs = search needs
 clock-requires : tie.Need-clock-requires
 clock-requires c κs = search needs
 
-element-copy-out-joined : tie.Need-element-copy-out-joined
-element-copy-out-joined c = search needs
+element-copy-out-flags-from : tie.Need-element-copy-out-flags-from
+element-copy-out-flags-from c = search needs
 
-element-copy-out-joined-2 : tie.Need-element-copy-out-joined-2
-element-copy-out-joined-2 c = search needs
+element-copy-out-flags-from-2 : tie.Need-element-copy-out-flags-from-2
+element-copy-out-flags-from-2 c = search needs
 
-joined-requires : tie.Need-joined-requires
-joined-requires c κs = search needs
+flags-from-requires : tie.Need-flags-from-requires
+flags-from-requires c κs = search needs
 
-element-copy-out-joined-3 : tie.Need-element-copy-out-joined-3
-element-copy-out-joined-3 c = search needs
+element-copy-out-flags-from-3 : tie.Need-element-copy-out-flags-from-3
+element-copy-out-flags-from-3 c = search needs
 
-element-copy-out-joined-4 : tie.Need-element-copy-out-joined-4
-element-copy-out-joined-4 c = search needs
+element-copy-out-flags-from-4 : tie.Need-element-copy-out-flags-from-4
+element-copy-out-flags-from-4 c = search needs
 
-joined-requires-2 : tie.Need-joined-requires-2
-joined-requires-2 c κs = search needs
+flags-from-requires-2 : tie.Need-flags-from-requires-2
+flags-from-requires-2 c κs = search needs
 
 returns : tie.Need-returns
 returns c =
     let before = c .before .before .before .before .before .before .clock .ensures ∙ ap (λ (f : ClockForC). clockFrom f) (c .before .before .before .before .before .before .before .fields .ensures) in
-    λ i. record { flags = c .before .before .before .joined .ensures i; snapshot = c .joined2 .ensures i; before = before i }
+    λ i. record { flags = c .before .before .before .flags-from .ensures i; snapshot = c .flags-from2 .ensures i; before = before i }
 
 pub load-spec : {M : Type 1} → statement M
 load-spec =
@@ -40,10 +40,10 @@ load-spec =
     (tie.spec
     fields-requires
     clock-requires
-    element-copy-out-joined
-    element-copy-out-joined-2
-    joined-requires
-    element-copy-out-joined-3
-    element-copy-out-joined-4
-    joined-requires-2
+    element-copy-out-flags-from
+    element-copy-out-flags-from-2
+    flags-from-requires
+    element-copy-out-flags-from-3
+    element-copy-out-flags-from-4
+    flags-from-requires-2
     returns)

@@ -40,15 +40,15 @@ use denote.Exit.{yes}
 use Rattle.memory.specs.declared.window.Window.{Window}
 use Rattle.memory.proofs.window.Window as P
 use Rattle.state.specs.declared.engine.Engine.{Engine}
-use Rattle.state.proofs.state.Engine as E
-use Rattle.state.proofs.state.Engine.Laws as E′
+use Rattle.state.proofs.engine.Engine as E
+use Rattle.state.proofs.engine.Engine.Laws as E′
 use Rattle.steps.specs.declared.run.Ran.{Ran}
 use Rattle.steps.specs.Run.{runSeen, runOf}
 use Rattle.steps.proofs.run.Ran as R
 use Rattle.steps.proofs.run.Ran.Laws as R′
 use Rattle.windows.specs.declared.table.Table.{Table}
 use Rattle.windows.specs.Flat.{flatOf}
-use Rattle.windows.specs.Table.{most, written, Has}
+use Rattle.windows.specs.Table.{most, inUse, Has}
 use Rattle.windows.proofs.table.Table as T
 use Rattle.windows.proofs.table.Table.Laws as T′
 use Rattle.windows.proofs.FirstWindows.{run-fewer}
@@ -138,7 +138,7 @@ module _ {M : Type 1} (𝓤 : URA M) (H : Heap 𝓤) (A : Atoms 𝓤) (W : Given
   abbrev to-run-table : Table → Val → RunTable 𝓤 H A mem run .Ghost
   to-run-table t u = (((κ, tt), (q, tt), tt, (s, (m, (t, (limit, tt)))), (us ∷ [], (um ∷ [], (u ∷ [], (vint w16 limit ∷ [], tt))))), tt)
 
-  run-table-asks : (t : Table) (u : Val) → Is T.the-row t (u ∷ []) → Has t (written t) → ent 𝓤 (sep 𝓤 (A .lft κ q) (sem 𝓤 H A (MutSlice (named 0) κ u8 .own m (um ∷ [])))) (RunTable 𝓤 H A mem run .pre (to-run-table t u))
+  run-table-asks : (t : Table) (u : Val) → Is T.the-row t (u ∷ []) → Has t (inUse t) → ent 𝓤 (sep 𝓤 (A .lft κ q) (sem 𝓤 H A (MutSlice (named 0) κ u8 .own m (um ∷ [])))) (RunTable 𝓤 H A mem run .pre (to-run-table t u))
   run-table-asks t u is has =
       qed W (‵ (flft κ q) ∷ ‵ (MutSlice (named 0) κ u8 .own m (um ∷ [])) ∷ []) ∵ says ! has $ nothing ! $ move ! (1 ∷ 0 ∷ []) $ join ! $ frame ! $
       nothing ! $ owned ! u16 (Is u16) (uint-makes 𝓤 H A W w16) limit (vint w16 limit ∷ []) (refl, small) $ fjoin ! $ owned ! T.the-row (Is T.the-row) (LL.makes T.the-type T′.the-plain 𝓤 H A) t (u ∷ []) is $ fjoin ! $ move ! (1 ∷ 0 ∷ []) $ fjoin ! $
@@ -164,7 +164,7 @@ module _ {M : Type 1} (𝓤 : URA M) (H : Heap 𝓤) (A : Atoms 𝓤) (W : Given
           move ! (1 ∷ 2 ∷ []) $ use2 W (raw (RunTable 𝓤 H A mem run .pre (to-run-table t u))) (run-table-asks t u is (record { whole = has .whole; fits = has .fits; holds = refl })) $
           -- [what `run_table` asks; the windows' token; _7; …]
           calls-at ! fm (RunTable 𝓤 H A mem run) known-run-table (to-run-table t u) (and-then ! (load ! (from ! (stop !)) (look ! 14 refl)) (and-then ! (load ! (from ! (stop !)) (look ! 2 refl)) (and-then ! (load ! (from ! (stop !)) (look ! 6 refl)) (and-then ! (load ! (from ! (stop !)) (look ! 8 refl)) (no-more !))))) (λ v.
-          told-last ! tt (‵ (flft κ q) ⊛ ‵ ftrue) R.the-row (Unit {0} × (Unit {0} × Unit {0})) (λ _. fsep ftrue (fsep ftrue ftrue)) γ ys (λ r zs. runSeen r zs ≡ runOf limit s ys (written t)) v (λ r zs e l is-r.
+          told-last ! tt (‵ (flft κ q) ⊛ ‵ ftrue) R.the-row (Unit {0} × (Unit {0} × Unit {0})) (λ _. fsep ftrue (fsep ftrue ftrue)) γ ys (λ r zs. runSeen r zs ≡ runOf limit s ys (inUse t)) v (λ r zs e l is-r.
           -- [the memory's token; its last list; the windows' token; _7; …]
           land ! (from ! (stop !)) (init ! 17 refl (LL.lawful R.the-type R′.the-laws 𝓤 H A W .typed r _ is-r .0)) $
           returns ! (look ! 17 refl) $ forget ! 3 refl $ forget ! 5 refl $ forget ! 7 refl $ forget ! 9 refl $ forget ! 11 refl $ forget ! 13 refl $ forget ! 15 refl $ forget ! 17 refl $

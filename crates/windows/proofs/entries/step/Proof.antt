@@ -39,15 +39,15 @@ use denote.Exit.{yes}
 use Rattle.memory.specs.declared.window.Window.{Window}
 use Rattle.memory.proofs.window.Window as P
 use Rattle.state.specs.declared.engine.Engine.{Engine}
-use Rattle.state.proofs.state.Engine as E
-use Rattle.state.proofs.state.Engine.Laws as E′
+use Rattle.state.proofs.engine.Engine as E
+use Rattle.state.proofs.engine.Engine.Laws as E′
 use Rattle.steps.specs.declared.run.Stepped.{Stepped}
 use Rattle.steps.specs.Run.{stepSeen, stepOf}
 use Rattle.steps.proofs.run.Stepped as R
 use Rattle.steps.proofs.run.Stepped.Laws as R′
 use Rattle.windows.specs.declared.table.Table.{Table}
 use Rattle.windows.specs.Flat.{flatOf}
-use Rattle.windows.specs.Table.{most, written, Has}
+use Rattle.windows.specs.Table.{most, inUse, Has}
 use Rattle.windows.proofs.table.Table as T
 use Rattle.windows.proofs.table.Table.Laws as T′
 use Rattle.windows.proofs.FirstWindows.{step-fewer}
@@ -137,7 +137,7 @@ module _ {M : Type 1} (𝓤 : URA M) (H : Heap 𝓤) (A : Atoms 𝓤) (W : Given
   abbrev to-step-table : Table → Val → StepTable 𝓤 H A mem run .Ghost
   to-step-table t u = (((κ, tt), (q, tt), tt, (s, (m, (t, tt))), (us ∷ [], (um ∷ [], (u ∷ [], tt)))), tt)
 
-  step-table-asks : (t : Table) (u : Val) → Is T.the-row t (u ∷ []) → Has t (written t) → ent 𝓤 (sep 𝓤 (A .lft κ q) (sem 𝓤 H A (MutSlice (named 0) κ u8 .own m (um ∷ [])))) (StepTable 𝓤 H A mem run .pre (to-step-table t u))
+  step-table-asks : (t : Table) (u : Val) → Is T.the-row t (u ∷ []) → Has t (inUse t) → ent 𝓤 (sep 𝓤 (A .lft κ q) (sem 𝓤 H A (MutSlice (named 0) κ u8 .own m (um ∷ [])))) (StepTable 𝓤 H A mem run .pre (to-step-table t u))
   step-table-asks t u is has =
       qed W (‵ (flft κ q) ∷ ‵ (MutSlice (named 0) κ u8 .own m (um ∷ [])) ∷ []) ∵ says ! has $ nothing ! $ move ! (1 ∷ 0 ∷ []) $ join ! $ frame ! $
       nothing ! $ owned ! T.the-row (Is T.the-row) (LL.makes T.the-type T′.the-plain 𝓤 H A) t (u ∷ []) is $ fjoin ! $ move ! (1 ∷ 0 ∷ []) $ fjoin ! $
@@ -163,7 +163,7 @@ module _ {M : Type 1} (𝓤 : URA M) (H : Heap 𝓤) (A : Atoms 𝓤) (W : Given
           move ! (1 ∷ 2 ∷ []) $ use2 W (raw (StepTable 𝓤 H A mem run .pre (to-step-table t u))) (step-table-asks t u is (record { whole = has .whole; fits = has .fits; holds = refl })) $
           -- [what `step_table` asks; the windows' token; _6; …]
           calls-at ! fm (StepTable 𝓤 H A mem run) known-step-table (to-step-table t u) (and-then ! (load ! (from ! (stop !)) (look ! 12 refl)) (and-then ! (load ! (from ! (stop !)) (look ! 2 refl)) (and-then ! (load ! (from ! (stop !)) (look ! 6 refl)) (no-more !)))) (λ v.
-          told-last ! tt (‵ (flft κ q) ⊛ ‵ ftrue) R.the-row (Unit {0} × Unit {0}) (λ _. fsep ftrue ftrue) γ ys (λ r zs. stepSeen r zs ≡ stepOf s ys (written t)) v (λ r zs e l is-r.
+          told-last ! tt (‵ (flft κ q) ⊛ ‵ ftrue) R.the-row (Unit {0} × Unit {0}) (λ _. fsep ftrue ftrue) γ ys (λ r zs. stepSeen r zs ≡ stepOf s ys (inUse t)) v (λ r zs e l is-r.
           -- [the memory's token; its last list; the windows' token; _6; …]
           land ! (from ! (stop !)) (init ! 15 refl (LL.lawful R.the-type R′.the-laws 𝓤 H A W .typed r _ is-r .0)) $
           returns ! (look ! 15 refl) $ forget ! 3 refl $ forget ! 5 refl $ forget ! 7 refl $ forget ! 9 refl $ forget ! 11 refl $ forget ! 13 refl $ forget ! 15 refl $

@@ -43,7 +43,7 @@ use Rattle.memory.specs.Verdict.{groupOf}
 use Rattle.memory.proofs.window.Window as P
 use Rattle.memory.proofs.verdict.Verdict as Vd
 use Rattle.memory.proofs.verdict.Verdict.Laws as Vd′
-use Rattle.windows.specs.Lookup.{among, pastOf, decideOf}
+use Rattle.windows.specs.Lookup.{touchedOf, pastOf, decideOf}
 use Rattle.windows.proofs.Looks.{judged}
 use Rattle.windows.proofs.WindowSlice.{slice}
 use Rattle.windows.proofs.AfterCall.{told}
@@ -94,7 +94,7 @@ module _ {M : Type 1} (𝓤 : URA M) (H : Heap 𝓤) (A : Atoms 𝓤) (W : Given
   end = pastOf start bytes
 
   abbrev sick : Bool
-  sick = among ws start end
+  sick = touchedOf ws start end
 
   abbrev a : Args judge.signature (κ, tt)
   a = (size, (x, (start, (bytes, tt))))

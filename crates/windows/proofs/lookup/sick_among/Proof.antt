@@ -53,8 +53,8 @@ use Rattle.memory.proofs.window.touches as touches
 use Rattle.memory.proofs.window.touches.Symbol as touches-def
 use Rattle.memory.proofs.window.touches.Symbol.{name as #touches}
 use Rattle.memory.proofs.window.touches.Met as touches-thm
-use Rattle.windows.specs.Lookup.{among}
-use Rattle.windows.proofs.Looks.{among-here, among-on, among-end}
+use Rattle.windows.specs.Lookup.{touchedOf}
+use Rattle.windows.proofs.Looks.{touchedOf-here, touchedOf-on, touchedOf-end}
 use Rattle.windows.proofs.WindowSlice.{slice, lowered, past, nth-window, Shared, looks-windows, window-out, window-back}
 use Rattle.windows.proofs.Tested.{tested}
 use Rattle.windows.proofs.AfterCall.{told}
@@ -109,7 +109,7 @@ module _ {M : Type 1} (𝓤 : URA M) (H : Heap 𝓤) (A : Atoms 𝓤) (W : Given
   abbrev Post : Val → SProp 𝓤
   Post = walkOf 𝓤 H A sick-among.ended stayed (sick-among.clauses 𝓤 H A mem run) .post bound
 
-  exits : (r : Bool) → r ≡ among ws start end → ent 𝓤 (A .lft κ q) (Post (vbool r))
+  exits : (r : Bool) → r ≡ touchedOf ws start end → ent 𝓤 (A .lft κ q) (Post (vbool r))
   exits r e =
       qed W (‵ (flft κ q) ∷ []) ∵ suffices ! _ (ends-at 𝓤 H A sick-among.ended stayed (sick-among.clauses 𝓤 H A mem run) W bound (vbool r) r (tt, (tt, (tt, tt))) (tt, (tt, (tt, tt)))) $ says ! e $
       nothing ! $ move ! (1 ∷ 0 ∷ []) $ join ! $ frame ! $ nothing ! $ nothing ! $ fjoin ! $ nothing ! $ fjoin ! $ nothing ! $ fjoin ! $ frame ! $ owned ! bool (Is bool) (bool-makes 𝓤 H A W) r (vbool r ∷ []) refl $ done !
@@ -127,7 +127,7 @@ module _ {M : Type 1} (𝓤 : URA M) (H : Heap 𝓤) (A : Atoms 𝓤) (W : Given
   record Upto : Type 0 where
     i : ℕ
     upto : i ≤ n
-    left : among (dropped i ws) start end ≡ among ws start end
+    left : touchedOf (dropped i ws) start end ≡ touchedOf ws start end
 
   abbrev Nearer : Upto → Upto → Type 0
   Nearer k j = n - k .i < n - j .i
@@ -160,7 +160,7 @@ module _ {M : Type 1} (𝓤 : URA M) (H : Heap 𝓤) (A : Atoms 𝓤) (W : Given
       Turned q′ j = afterTurn 𝓤 H (Below 𝓤 H A Nearer (At q′) j) (afterBlock 𝓤 H (afterSeq 𝓤 H (Wp 𝓤 H C Λ E body.t-3 (atReturn 𝓤 H E Post)) (atReturn 𝓤 H E Post)))
 
       -- the result r is returned, and the locals are freed
-      freed : (j : Upto) (r : Bool) → r ≡ among ws start end → Sq W (‵ (flft κ q) ∷ Locals (‵ (fat fullShare word l₄ 0 (vint w64 (j .i)))) (‵ (fat fullShare tyBool l₀ 0 (vbool r))) []) (frees E (prop (Post (vbool r))))
+      freed : (j : Upto) (r : Bool) → r ≡ touchedOf ws start end → Sq W (‵ (flft κ q) ∷ Locals (‵ (fat fullShare word l₄ 0 (vint w64 (j .i)))) (‵ (fat fullShare tyBool l₀ 0 (vbool r))) []) (frees E (prop (Post (vbool r))))
       freed j r e =
           forget ! 11 refl $ forget ! 13 refl $ forget ! 15 refl $ forget ! 17 refl $ forget ! 19 refl $
           move ! (19 ∷ 20 ∷ []) $ free1 ! $ move ! (17 ∷ 18 ∷ []) $ free1 ! $ move ! (15 ∷ 16 ∷ []) $ free1 ! $ move ! (13 ∷ 14 ∷ []) $ free1 ! $ move ! (11 ∷ 12 ∷ []) $ free1 ! $ move ! (9 ∷ 10 ∷ []) $ free1 ! $
@@ -191,14 +191,14 @@ module _ {M : Type 1} (𝓤 : URA M) (H : Heap 𝓤) (A : Atoms 𝓤) (W : Given
           first ! $ branches ! (load ! (from ! (stop !)) (look ! 6 refl))
           (λ hit. assigns ! (of-opd ! (true-lit !)) (from ! (stop !)) (init ! 20 refl (tt, tt)) $ shuts-slice ! tt P.the-row q′ ws b o $
           returns-within ! Post refl (look ! 19 refl) $ forget ! 1 refl $ forget ! 3 refl $ forget ! 5 refl $ forget ! 7 refl $ forget ! 9 refl $
-          freed j true (among-here ws start end (j .i) past l (sym e ∙ holds r hit) ∙ j .left))
+          freed j true (touchedOf-here ws start end (j .i) past l (sym e ∙ holds r hit) ∙ j .left))
           (λ missed. skips ! $ exec ! C Λ E more (anyQ (Turned q′ j)) $
           assigns-last ! (bin ! (load ! (from ! (stop !)) (look ! 12 refl)) (lit ! tt) (record { fits = omega (arith, room .0) })) (from ! (stop !)) (store ! 12 refl (tt, record { fits = omega (arith, room .0) })) $
           forget ! 2 refl $ forget ! 4 refl $ forget ! 6 refl $ forget ! 8 refl $ forget ! 10 refl $
-          again ! Nearer (At q′) j (record { i = j .i + 1; upto = add-one-le l; left = among-on ws start end (j .i) past l (sym e ∙ fails r missed) ∙ j .left }) (add-one-dec n (j .i) l))))))
+          again ! Nearer (At q′) j (record { i = j .i + 1; upto = add-one-le l; left = touchedOf-on ws start end (j .i) past l (sym e ∙ fails r missed) ∙ j .left }) (add-one-dec n (j .i) l))))))
           (λ over. exec ! C Λ E body.t-3 (atRet E Post) $
           assigns ! (of-opd ! (false-lit !)) (from ! (stop !)) (init ! 20 refl (tt, tt)) $ shuts-slice ! tt P.the-row q′ ws b o $
-          returns ! (look ! 19 refl) $ forget ! 7 refl $ forget ! 9 refl $ freed j false (among-end ws start end (j .i) (nltb→le (j .i) n over) ∙ j .left))
+          returns ! (look ! 19 refl) $ forget ! 7 refl $ forget ! 9 refl $ freed j false (touchedOf-end ws start end (j .i) (nltb→le (j .i) n over) ∙ j .left))
 
       begins : Sq W (Locals (‵ (froom word l₄ 0)) (‵ (froom tyBool l₀ 0)) ((‵ (flft κ q) ⊛ ‵ ftrue) ∷ ‵ (owns (ShrSlice (named 0) κ P.the-row ∷ u64 ∷ u64 ∷ []) a at) ∷ [])) (runs C Λ E body.t-1 (atRet E Post))
       begins =

@@ -49,7 +49,7 @@ use Rattle.memory.proofs.window.Window as P
 use Rattle.memory.proofs.window.Window.Laws as P′
 use Rattle.windows.specs.declared.table.Table.{Table}
 use Rattle.windows.specs.Flat.{flatOf}
-use Rattle.windows.specs.Table.{most, copiedOf, room, written, Has}
+use Rattle.windows.specs.Table.{most, copiedOf, room, inUse, Has}
 use Rattle.windows.proofs.table.Table as T
 use Rattle.windows.proofs.table.Table.Laws as T′
 use Rattle.windows.proofs.Copies.{copied-within, copied-most, take-copied, flat-next, has-windows}
@@ -82,7 +82,7 @@ word = tyInt w64
 
 -- the numbers with a window's after them
 abbrev more : Table → Window → List ℕ
-more t w = written t ++ (w .start ∷ w .length ∷ [])
+more t w = inUse t ++ (w .start ∷ w .length ∷ [])
 
 module _ {M : Type 1} (𝓤 : URA M) (H : Heap 𝓤) (A : Atoms 𝓤) (mem : Memory → SProp 𝓤) (run : Routine → Fun 𝓤) where
   -- the contracts that the proof cites
@@ -141,7 +141,7 @@ module _ {M : Type 1} (𝓤 : URA M) (H : Heap 𝓤) (A : Atoms 𝓤) (W : Given
   abbrev to-add : Table → Val → Window → Add 𝓤 H A mem run .Ghost
   to-add t u w = ((tt, tt, tt, (t, (w, tt)), (u ∷ [], (lowered w ∷ [], tt))), tt)
 
-  add-asks : (t : Table) (u : Val) (w : Window) → IsTable t u → Is P.the-row w (lowered w ∷ []) → Has t (written t) × (t .count + 2 ≤ room) → ent 𝓤 (emp 𝓤) (Add 𝓤 H A mem run .pre (to-add t u w))
+  add-asks : (t : Table) (u : Val) (w : Window) → IsTable t u → Is P.the-row w (lowered w ∷ []) → Has t (inUse t) × (t .count + 2 ≤ room) → ent 𝓤 (emp 𝓤) (Add 𝓤 H A mem run .pre (to-add t u w))
   add-asks t u w is isw asked =
       qed W [] ∵ says ! asked $ nothing ! $ frame ! $ nothing ! $ owned ! P.the-row (Is P.the-row) (LL.makes P.the-type P′.the-plain 𝓤 H A) w (lowered w ∷ []) isw $ fjoin ! $
       owned ! T.the-row (Is T.the-row) (LL.makes T.the-type T′.the-plain 𝓤 H A) t (u ∷ []) is $ fjoin ! $ done !
@@ -173,7 +173,7 @@ module _ {M : Type 1} (𝓤 : URA M) (H : Heap 𝓤) (A : Atoms 𝓤) (W : Given
   }
 
   -- there is room for one more
-  has-next : (j : Upto) → j .i < end → Has (j .t) (written (j .t)) × (j .t .count + 2 ≤ room)
+  has-next : (j : Upto) → j .i < end → Has (j .t) (inUse (j .t)) × (j .t .count + 2 ≤ room)
   has-next j l = (record { whole = j .has .whole; fits = j .has .fits; holds = refl }, omega (arith, has-windows (j .t) ws (j .i) (omega (arith, copied-within n)) (j .has), copied-most n))
 
   -- all are read

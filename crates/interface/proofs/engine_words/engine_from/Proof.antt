@@ -3,8 +3,8 @@ use denote.Ref.{now}
 use mathlib.Core.Path.{ap, _∙_}
 use Rattle.state.specs.declared.engine.Transfer.{Transfer}
 use borrow.Author.Needs.{needs}
-use Rattle.interface.proofs.engine_words.spelled.Statement.{statement}
-use Rattle.interface.proofs.engine_words.spelled.Tie as tie
+use Rattle.interface.proofs.engine_words.engine_from.Statement.{statement}
+use Rattle.interface.proofs.engine_words.engine_from.Tie as tie
 
 transfer-requires : tie.Need-transfer-requires
 transfer-requires c κs = search needs
@@ -43,8 +43,8 @@ returns c =
       phase = phases i;
     }
 
-pub spelled-spec : {M : Type 1} → statement M
-spelled-spec =
+pub engine-from-spec : {M : Type 1} → statement M
+engine-from-spec =
     tie.close
     (tie.spec
     transfer-requires

@@ -54,10 +54,10 @@ module _ (w l : ℕ) where
     whole : (n : ℕ) → n % w ≡ 0 → n ≡ wordStart w n
     whole n d = omega (arith, div-add-mod' n w)
 
-    -- where pages hold whole words, a burst that stops short of the transfer's end stops at the start of a word
-    pub end-aligned : 4096 % w ≡ 0 → (a e : ℕ) → burstEnd w l a e < e → burstEnd w l a e ≡ wordStart w (burstEnd w l a e)
+    -- if pages hold whole words, a burst that stops short of the transfer's end stops at the start of a word
+    pub end-aligned : 4096 % w ≡ 0 → (a e : ℕ) → burstEnd w l a e < e → burstEnd w l a e % w ≡ 0
     unfolding burstEnd reach
-    end-aligned d a e h = whole (burstEnd w l a e) (nearer (decide (leb P Q)))
+    end-aligned d a e h = nearer (decide (leb P Q))
       where
         P : ℕ
         P = (a / page + 1) * page

@@ -73,13 +73,20 @@ fn word_offset(width: u32, at: u64) -> u64
     }
 }
 
-// The bytes from `at` to the end of the last aligned word that a burst from there may touch.
+// The bytes of the aligned words that a burst may touch.
+pub fn span(width: u32, beats: u32) -> u64
+    ensures { λ r. ⌜ r ≡ width * beats ⌝ }
+{
+    width as u64 * beats as u64
+}
+
+// How many of them are left from `at`, if its word is the first one.
 pub fn words_left(width: u32, beats: u32, at: u64) -> u64
     requires { ⌜ 0 < width ⌝ }
     requires { ⌜ 0 < beats ⌝ }
     ensures { λ r. ⌜ r ≡ width * beats - at % width ⌝ }
 {
-    width as u64 * beats as u64 - word_offset(width, at)
+    span(width, beats) - word_offset(width, at)
 }
 
 // The least of: what is left of the page of `at`, `words` bytes, and what is left of the transfer.

@@ -1,2 +1,3 @@
 pub mod Planning
-pub mod Walk
+pub mod Walking
+pub mod Filling

@@ -1,22 +1,31 @@
 -- What it takes for a plan not to be refused, and that two plans of one transfer are equal.
 use mathlib.Core.Path.{_≡_, refl, sym, ap, _∙_}
-use Prim.Native.Nat.{ℕ, _+_, _*_, _≤_, _<_}
+use Prim.Native.Nat.{ℕ, _+_, _-_, _*_, _≤_, _<_}
 use mathlib.Core.Bool.{Bool, true, false}
 use mathlib.Core.List.{List}
+use mathlib.Core.Logic.{_⊎_, inl, inr}
 use lib.ListN.{length}
 use lib.Seq.{sets}
 use lib.Dec.{eqb, ltb}
 use native.Mathlib.Omega.{arith}
-use borrow.Author.Tests.{ltb-false, eqb-false, eq-eqb, ne-eqb}
+use borrow.Author.Tests.{ltb-true, ltb-false, lt-ltb, le-ltb, eqb-false, eq-eqb, ne-eqb}
 use Rattle.kit.specs.Choice.{when, either}
 use Rattle.kit.specs.Limits.{mostBytes, addressEnd}
 use Rattle.kit.specs.Settings.{legalSettings}
 use Rattle.kit.specs.Answer.{numberOf}
-use Rattle.kit.proofs.Choice.{yes, no, never}
+use Rattle.kit.proofs.Choice.{yes, no, decide, never}
 use Rattle.kit.proofs.Numbers.{number-tells}
 use Rattle.cut.specs.Cut.{cut}
 use Rattle.plan.specs.declared.measure.Planned.{Planned}
 use Rattle.plan.specs.Plan.{outOfRange, Measured, refusal, measureOf, Plan, written, measured, seen}
+
+-- the code compares lengths, and never makes the sum
+pub past-end : (start count : ℕ) → start ≤ addressEnd → ltb (addressEnd - start) count ≡ ltb addressEnd (start + count)
+past-end start count h = go (decide (ltb (addressEnd - start) count))
+  where
+    go : (ltb (addressEnd - start) count ≡ true) ⊎ (ltb (addressEnd - start) count ≡ false) → ltb (addressEnd - start) count ≡ ltb addressEnd (start + count)
+    go (inl t) = let i = ltb-true (addressEnd - start) count t in t ∙ sym (lt-ltb addressEnd (start + count) (omega arith))
+    go (inr t) = let i = ltb-false (addressEnd - start) count t in t ∙ sym (le-ltb addressEnd (start + count) (omega arith))
 
 -- a range that is not refused
 pub record InRange (start count : ℕ) : Type 0 where

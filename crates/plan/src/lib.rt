@@ -1,6 +1,7 @@
 // Document 01, "Cutting a transfer": the plan of a transfer in a lent slice of numbers, or of bytes.
 mod fill;
 pub mod measure;
+mod walk;
 
 use kit::answer::number;
 use measure::Planned;
@@ -15,13 +16,7 @@ pub fn plan(width: u32, beats: u32, start: u32, count: u32, places: &mut [u32]) 
     let planned = measure(width, beats, start, count, places.len());
     let answer = planned.answer;
     if number(answer) == 0 {
-        fill::places(
-            width,
-            beats,
-            start as u64,
-            start as u64 + count as u64,
-            places,
-        );
+        fill::places(width, beats, start, count, places);
     }
     planned
 }
@@ -33,13 +28,7 @@ pub fn plan_bytes(width: u32, beats: u32, start: u32, count: u32, places: &mut [
     let planned = measure(width, beats, start, count, places.len() / 4);
     let answer = planned.answer;
     if number(answer) == 0 {
-        fill::bytes(
-            width,
-            beats,
-            start as u64,
-            start as u64 + count as u64,
-            places,
-        );
+        fill::bytes(width, beats, start, count, places);
     }
     planned
 }

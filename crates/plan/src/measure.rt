@@ -1,6 +1,7 @@
 // Whether a transfer can be planned, and its number of bursts.
-use cut::end_from;
-use cut::word_start;
+use crate::walk::burst_after;
+use cut::span;
+use cut::words_left;
 use kit::answer::Answer;
 use kit::limits::ADDRESS_END;
 use kit::limits::MOST_BYTES;
@@ -8,8 +9,9 @@ use kit::settings::Settings;
 use kit::settings::legal;
 ghost use mathlib.Core.Path.{_≡_};
 ghost use mathlib.Core.Bool.{true};
-ghost use Prim.Native.Nat.{_+_, _≤_, _^_};
+ghost use Prim.Native.Nat.{_+_, _≤_};
 ghost use lib.ListN.{length};
+ghost use Rattle.kit.specs.Limits.{addressEnd};
 ghost use Rattle.kit.specs.Settings.{legalSettings};
 ghost use Rattle.cut.specs.Cut.{cut};
 ghost use Rattle.plan.specs.Plan.{outOfRange, measureOf, measured};
@@ -20,22 +22,21 @@ pub struct Planned {
     pub bursts: u32,
 }
 
-// The number of bursts of the bytes from `start` up to `end`. After the first burst each starts at a word, so that only
-// the first asks for a division.
-fn count_bursts(width: u32, beats: u32, start: u64, end: u64) -> u32
+// The number of bursts of a transfer. After the first burst each starts at a word, so only the first asks for a
+// division.
+fn count_bursts(width: u32, beats: u32, start: u32, count: u32) -> u32
     requires { ⌜ legalSettings width beats ≡ true ⌝ }
-    requires { ⌜ start ≤ end ⌝ }
-    requires { ⌜ end ≤ start + 8388607 ⌝ }
-    requires { ⌜ end ≤ 2 ^ 32 ⌝ }
-    ensures { λ r. ⌜ r ≡ length (cut width beats start end) ⌝ }
+    requires { ⌜ start + count ≤ addressEnd ⌝ }
+    ensures { λ r. ⌜ r ≡ length (cut width beats start (start + count)) ⌝ }
 {
-    let span = width as u64 * beats as u64;
-    let mut at = start;
-    let mut word = word_start(width, start);
+    let most = span(width, beats);
+    let mut words = words_left(width, beats, start as u64);
+    let mut done: u32 = 0;
     let mut bursts: u32 = 0;
-    while at < end {
-        at = end_from(word, span, at, end);
-        word = at;
+    while done < count {
+        let burst = burst_after(words, start, count, done);
+        done += burst.bytes;
+        words = most;
         bursts += 1;
     }
     bursts
@@ -51,7 +52,7 @@ fn out_of_range(start: u32, count: u32) -> bool
     if count > MOST_BYTES {
         return true;
     }
-    start as u64 + count as u64 > ADDRESS_END
+    count as u64 > ADDRESS_END - start as u64
 }
 
 // Refusals in their order, 1, 7 and 8, else the number of bursts.
@@ -70,7 +71,7 @@ pub fn measure(width: u32, beats: u32, start: u32, count: u32, room: usize) -> P
             bursts: 0,
         };
     }
-    let bursts = count_bursts(width, beats, start as u64, start as u64 + count as u64);
+    let bursts = count_bursts(width, beats, start, count);
     if room < 2 * bursts as usize {
         return Planned {
             answer: Answer::PlanRoom,

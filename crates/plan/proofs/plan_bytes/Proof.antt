@@ -17,16 +17,13 @@ measure-requires c κs = search needs
 number-requires : tie.Need-number-requires
 number-requires c κs = search needs
 
-add-bytes : tie.Need-add-bytes
-add-bytes c = search needs
-
 bytes-requires : tie.Need-bytes-requires
 bytes-requires c κs =
     let a = c .before .before .before .before .before .args in
     let m = c .before .before .before .measure in
     let k = c .before .before .number .ensures in
     let p = planable (a .width) (a .beats) (a .start) (a .count) (length (now (a .places)) / 4) (zero-answer (m .result) (m .ensures) k [] [] (c .before .if1 .taken)) in
-    (p .legal, (omega arith, (p .range .inside, omega arith)))
+    (p .legal, (p .range .inside, omega arith))
 
 same-length : tie.Need-same-length
 same-length c = search needs
@@ -51,7 +48,6 @@ plan-bytes-spec =
     (tie.spec
     measure-requires
     number-requires
-    add-bytes
     bytes-requires
     same-length
     returns

@@ -1,106 +1,81 @@
-use mathlib.Core.Path.{_≡_, refl, sym, ap, _∙_}
-use Prim.Native.Nat.{ℕ, _+_, _-_, _*_, _≤_}
+use mathlib.Core.Path.{refl, ap, _∙_}
+use Prim.Native.Nat.{ℕ, _+_, _-_}
 use native.Mathlib.Omega.{arith}
 use mathlib.Core.List.{List, [], _∷_}
 use lib.ListN.{length}
 use lib.Seq.{sets, length-sets}
+use denote.Ref.{now}
 use borrow.Author.Needs.{needs}
+use Rattle.kit.proofs.Legal.{legal}
 use Rattle.cut.specs.declared.Burst.{Burst}
-use Rattle.cut.specs.Cut.{cut}
-use Rattle.cut.proofs.Cutting.{cut-stop}
-use Rattle.plan.specs.Plan.{placesOf, littleOf}
-use Rattle.plan.proofs.Walk.{width-positive, span-fits, Walk, asked, turn, little-step}
+use Rattle.plan.specs.Plan.{littleOf}
+use Rattle.plan.proofs.Walking.{Turn, turn}
+use Rattle.plan.proofs.Filling.{little, Filling, fill-begins, fill-goes-on, fill-ends, little-stored}
 use Rattle.plan.proofs.fill.bytes.Statement.{statement}
 use Rattle.plan.proofs.fill.bytes.Tie as tie
 
 abbrev Inv-loop : tie.InvT-loop
-Inv-loop width beats start end places₀ span at₀ word₀ place₀ places at word place =
-    Walk width end at word × (length places ≡ length places₀) × (place + 8 * length (cut width beats at end) ≤ length places)
-    × (sets places place (littleOf (placesOf (cut width beats at end))) ≡ sets places₀ 0 (littleOf (placesOf (cut width beats start end))))
+Inv-loop width beats start count places₀ most words₀ done₀ place₀ places words done place =
+    Filling little 8 width beats start count most places₀ places words done place
 
 abbrev μ-loop : tie.MeasureT-loop
-μ-loop width beats start end places₀ span at₀ word₀ place₀ places at word place = end - at
+μ-loop width beats start count places₀ most words₀ done₀ place₀ places words done place = count - done
 
-mul-span : tie.Need-mul-span Inv-loop μ-loop
-mul-span c = span-fits (c .before .args .width) (c .before .args .beats) (c .before .pre .0)
+-- the turn that a burst is taken in
+turn-at : (c : tie.After-burst-after Inv-loop μ-loop)
+    → let a = c .before .before .before .before .before .before .args in
+    Turn (a .width) (a .beats) (a .start) (a .count) (c .before .before .before .before .span .result) (c .before .before .loop .done) (c .burst-after .result)
+turn-at c =
+    let f = c .before .before .before .before .before .before in
+    turn (f .args .width) (f .args .beats) (f .args .start) (f .args .count) (f .pre .0) (c .before .before .loop .inv .walk) (c .before .loop-test .taken) (c .burst-after .result) (c .burst-after .ensures)
 
-word-start-requires : tie.Need-word-start-requires Inv-loop μ-loop
-word-start-requires c κs = width-positive (c .before .args .width) (c .before .args .beats) (c .before .pre .0)
+span-requires : tie.Need-span-requires Inv-loop μ-loop
+span-requires c κs = search needs
+
+words-left-requires : tie.Need-words-left-requires Inv-loop μ-loop
+words-left-requires c κs =
+    let f = c .before .before in
+    let g = legal (f .args .width) (f .args .beats) (f .pre .0) in
+    (g .width-positive, g .beats-positive)
 
 loop-holds : tie.Need-loop-holds Inv-loop μ-loop
-loop-holds c = (record { within = search needs; below = search needs; aligned = λ h. c .word-start .ensures }, refl, search needs, refl)
+loop-holds c =
+    let f = c .before .before .before in
+    fill-begins little 8 (f .args .width) (f .args .beats) (f .args .start) (f .args .count) (c .before .span .result) (now (f .args .places)) (c .before .span .ensures) (c .words-left .ensures) (f .pre .1 .1)
 
-end-from-requires : tie.Need-end-from-requires Inv-loop μ-loop
-end-from-requires c κs =
-    let a = c .before .before .before .before .args in
-    asked (a .width) (a .beats) (c .before .before .before .before .pre .0) (c .before .loop .inv .0) (c .loop-test .taken)
-
-cast-store-burst : tie.Need-cast-store-burst Inv-loop μ-loop
-cast-store-burst c =
-    let a = c .before .before .before .before .before .before .args in
-    let v = c .before .before .before .loop in
-    let t = turn (a .width) (a .beats) (c .before .before .before .before .before .before .pre .0) (v .inv .0) (c .before .before .loop-test .taken) (c .before .end-from .ensures) in
-    omega arith
-
-sub-store-burst : tie.Need-sub-store-burst Inv-loop μ-loop
-sub-store-burst c =
-    let a = c .before .before .before .before .before .before .args in
-    let v = c .before .before .before .loop in
-    let t = turn (a .width) (a .beats) (c .before .before .before .before .before .before .pre .0) (v .inv .0) (c .before .before .loop-test .taken) (c .before .end-from .ensures) in
-    omega arith
-
-cast-store-burst-2 : tie.Need-cast-store-burst-2 Inv-loop μ-loop
-cast-store-burst-2 c =
-    let a = c .before .before .before .before .before .before .args in
-    let v = c .before .before .before .loop in
-    let t = turn (a .width) (a .beats) (c .before .before .before .before .before .before .pre .0) (v .inv .0) (c .before .before .loop-test .taken) (c .before .end-from .ensures) in
-    omega arith
+burst-after-requires : tie.Need-burst-after-requires Inv-loop μ-loop
+burst-after-requires c κs = (c .loop-test .taken, c .before .before .before .before .before .pre .1 .0)
 
 store-burst-requires : tie.Need-store-burst-requires Inv-loop μ-loop
-store-burst-requires c κs =
-    let a = c .before .before .before .before .before .before .args in
-    let v = c .before .before .before .loop in
-    let t = turn (a .width) (a .beats) (c .before .before .before .before .before .before .pre .0) (v .inv .0) (c .before .before .loop-test .taken) (c .before .end-from .ensures) in
-    omega arith
+store-burst-requires c κs = let t = turn-at (c .before) in omega arith
 
 add-place : tie.Need-add-place Inv-loop μ-loop
-add-place c =
-    let a = c .before .before .before .before .before .before .before .before .before .args in
-    let v = c .before .before .before .before .before .before .loop in
-    let t = turn (a .width) (a .beats) (c .before .before .before .before .before .before .before .before .before .pre .0) (v .inv .0) (c .before .before .before .before .before .loop-test .taken) (c .before .before .before .before .end-from .ensures) in
-    omega arith
+add-place c = let t = turn-at (c .before .before .before .before) in omega arith
+
+add-done : tie.Need-add-done Inv-loop μ-loop
+add-done c = let t = turn-at (c .before .before .before .before .before) in omega arith
 
 loop-less : tie.Need-loop-less Inv-loop μ-loop
-loop-less c =
-    let a = c .before .before .before .before .before .before .before .before .before .args in
-    let v = c .before .before .before .before .before .before .loop in
-    let t = turn (a .width) (a .beats) (c .before .before .before .before .before .before .before .before .before .pre .0) (v .inv .0) (c .before .before .before .before .before .loop-test .taken) (c .before .before .before .before .end-from .ensures) in
-    omega arith
+loop-less c = let t = turn-at (c .before .before .before .before .before) in omega arith
 
 loop-again : tie.Need-loop-again Inv-loop μ-loop
 loop-again c =
-    let a = c .before .before .before .before .before .before .before .before .before .args in
-    let v = c .before .before .before .before .before .before .loop in
-    let t = turn (a .width) (a .beats) (c .before .before .before .before .before .before .before .before .before .pre .0) (v .inv .0) (c .before .before .before .before .before .loop-test .taken) (c .before .before .before .before .end-from .ensures) in
-    let s = c .before .before .store-burst .ensures in
-    let rest = placesOf (cut (a .width) (a .beats) (c .before .before .before .before .end-from .result) (a .end)) in
-    let stop = c .before .before .before .before .end-from .result in
-    let kept : length (c .before .before .store-burst .last .0) ≡ length (v .places) = ap length s ∙ length-sets (v .places) (v .place) (littleOf (v .at ∷ (stop - v .at) ∷ [])) in (
-      t .walk,
-      kept ∙ v .inv .1,
-      omega arith,
-      ap (λ (m : List ℕ). sets m (v .place + 8) (littleOf rest)) s ∙ little-step (v .places) (v .place) (v .at) (stop - v .at) rest
-          ∙ ap (λ (bs : List Burst). sets (v .places) (v .place) (littleOf (placesOf bs))) (sym (t .first)) ∙ v .inv .3,
-    )
+    let d = c .before .before .before .before .before in
+    let f = d .before .before .before .before .before .before in
+    let v = d .before .before .loop in
+    let b = d .burst-after .result in
+    let s = c .before .before .before .store-burst in
+    fill-goes-on little 8 (f .args .width) (f .args .beats) (f .args .start) (f .args .count) (d .before .before .before .before .span .result) (now (f .args .places))
+    (v .inv) (turn-at d) (s .last .0) (s .kept .0)
+    (λ more. ap (λ (m : List ℕ). sets m (v .place + 8) (little more)) (s .ensures) ∙ little-stored (v .places) (v .place) b more)
 
 same-length : tie.Need-same-length Inv-loop μ-loop
-same-length c = c .before .loop .inv .1
+same-length c = c .before .loop .inv .kept
 
 returns : tie.Need-returns Inv-loop μ-loop
 returns c =
-    let a = c .before .before .before .before .args in
-    ap (λ (bs : List Burst). sets (c .before .loop .places) (c .before .loop .place) (littleOf (placesOf bs))) (sym (cut-stop (a .width) (a .beats) (c .before .loop .at) (a .end) (c .loop-test .left)))
-    ∙ c .before .loop .inv .3
+    let f = c .before .before .before .before .before in
+    fill-ends little 8 (f .args .width) (f .args .beats) (f .args .start) (f .args .count) (c .before .before .before .span .result) (now (f .args .places)) (c .before .loop .inv) (c .loop-test .left) refl
 
 pub bytes-spec : {M : Type 1} → statement M
 bytes-spec =
@@ -108,15 +83,13 @@ bytes-spec =
     (tie.spec
     Inv-loop
     μ-loop
-    mul-span
-    word-start-requires
+    span-requires
+    words-left-requires
     loop-holds
-    end-from-requires
-    cast-store-burst
-    sub-store-burst
-    cast-store-burst-2
+    burst-after-requires
     store-burst-requires
     add-place
+    add-done
     loop-less
     loop-again
     same-length

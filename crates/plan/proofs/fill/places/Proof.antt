@@ -1,130 +1,86 @@
-use mathlib.Core.Path.{_≡_, refl, sym, ap, _∙_}
-use Prim.Native.Nat.{_+_, _-_, _*_, _≤_}
-use native.Mathlib.Numerals.{add-one, add-two}
+use mathlib.Core.Path.{refl, _∙_}
+use Prim.Native.Nat.{_+_, _-_}
 use native.Mathlib.Omega.{arith}
-use mathlib.Core.List.{List}
-use lib.ListN.{length, length-set}
-use lib.Seq.{sets}
+use lib.ListN.{length-set}
+use denote.Ref.{now}
 use borrow.Author.Needs.{needs}
-use Rattle.cut.specs.declared.Burst.{Burst}
-use Rattle.cut.specs.Cut.{cut}
-use Rattle.cut.proofs.Cutting.{cut-stop}
+use Rattle.kit.proofs.Legal.{legal}
 use Rattle.plan.specs.Plan.{placesOf}
-use Rattle.plan.proofs.Walk.{width-positive, span-fits, Walk, asked, turn}
+use Rattle.plan.proofs.Walking.{Turn, turn}
+use Rattle.plan.proofs.Filling.{Filling, fill-begins, fill-goes-on, fill-ends, places-stored}
 use Rattle.plan.proofs.fill.places.Statement.{statement}
 use Rattle.plan.proofs.fill.places.Tie as tie
 
 abbrev Inv-loop : tie.InvT-loop
-Inv-loop width beats start end places₀ span at₀ word₀ place₀ places at word place =
-    Walk width end at word × (length places ≡ length places₀) × (place + 2 * length (cut width beats at end) ≤ length places)
-    × (sets places place (placesOf (cut width beats at end)) ≡ sets places₀ 0 (placesOf (cut width beats start end)))
+Inv-loop width beats start count places₀ most words₀ done₀ place₀ places words done place =
+    Filling placesOf 2 width beats start count most places₀ places words done place
 
 abbrev μ-loop : tie.MeasureT-loop
-μ-loop width beats start end places₀ span at₀ word₀ place₀ places at word place = end - at
+μ-loop width beats start count places₀ most words₀ done₀ place₀ places words done place = count - done
 
-mul-span : tie.Need-mul-span Inv-loop μ-loop
-mul-span c = span-fits (c .before .args .width) (c .before .args .beats) (c .before .pre .0)
+-- the turn that a burst is taken in
+turn-at : (c : tie.After-burst-after Inv-loop μ-loop)
+    → let a = c .before .before .before .before .before .before .args in
+    Turn (a .width) (a .beats) (a .start) (a .count) (c .before .before .before .before .span .result) (c .before .before .loop .done) (c .burst-after .result)
+turn-at c =
+    let f = c .before .before .before .before .before .before in
+    turn (f .args .width) (f .args .beats) (f .args .start) (f .args .count) (f .pre .0) (c .before .before .loop .inv .walk) (c .before .loop-test .taken) (c .burst-after .result) (c .burst-after .ensures)
 
-word-start-requires : tie.Need-word-start-requires Inv-loop μ-loop
-word-start-requires c κs = width-positive (c .before .args .width) (c .before .args .beats) (c .before .pre .0)
+span-requires : tie.Need-span-requires Inv-loop μ-loop
+span-requires c κs = search needs
+
+words-left-requires : tie.Need-words-left-requires Inv-loop μ-loop
+words-left-requires c κs =
+    let f = c .before .before in
+    let g = legal (f .args .width) (f .args .beats) (f .pre .0) in
+    (g .width-positive, g .beats-positive)
 
 loop-holds : tie.Need-loop-holds Inv-loop μ-loop
-loop-holds c = (record { within = search needs; below = search needs; aligned = λ h. c .word-start .ensures }, refl, search needs, refl)
+loop-holds c =
+    let f = c .before .before .before in
+    fill-begins placesOf 2 (f .args .width) (f .args .beats) (f .args .start) (f .args .count) (c .before .span .result) (now (f .args .places)) (c .before .span .ensures) (c .words-left .ensures) (f .pre .1 .1)
 
-end-from-requires : tie.Need-end-from-requires Inv-loop μ-loop
-end-from-requires c κs =
-    let a = c .before .before .before .before .args in
-    asked (a .width) (a .beats) (c .before .before .before .before .pre .0) (c .before .loop .inv .0) (c .loop-test .taken)
-
-cast-places : tie.Need-cast-places Inv-loop μ-loop
-cast-places c =
-    let a = c .before .before .before .before .before .args in
-    let v = c .before .before .loop in
-    let t = turn (a .width) (a .beats) (c .before .before .before .before .before .pre .0) (v .inv .0) (c .before .loop-test .taken) (c .end-from .ensures) in
-    omega arith
+burst-after-requires : tie.Need-burst-after-requires Inv-loop μ-loop
+burst-after-requires c κs = (c .loop-test .taken, c .before .before .before .before .before .pre .1 .0)
 
 mul-places : tie.Need-mul-places Inv-loop μ-loop
-mul-places c =
-    let a = c .before .before .before .before .before .args in
-    let v = c .before .before .loop in
-    let t = turn (a .width) (a .beats) (c .before .before .before .before .before .pre .0) (v .inv .0) (c .before .loop-test .taken) (c .end-from .ensures) in
-    omega arith
+mul-places c = let t = turn-at c in omega arith
 
 slice-write-places : tie.Need-slice-write-places Inv-loop μ-loop
-slice-write-places c =
-    let a = c .before .before .before .before .before .args in
-    let v = c .before .before .loop in
-    let t = turn (a .width) (a .beats) (c .before .before .before .before .before .pre .0) (v .inv .0) (c .before .loop-test .taken) (c .end-from .ensures) in
-    omega arith
-
-sub-places : tie.Need-sub-places Inv-loop μ-loop
-sub-places c =
-    let a = c .before .before .before .before .before .args in
-    let v = c .before .before .loop in
-    let t = turn (a .width) (a .beats) (c .before .before .before .before .before .pre .0) (v .inv .0) (c .before .loop-test .taken) (c .end-from .ensures) in
-    omega arith
-
-cast-places-2 : tie.Need-cast-places-2 Inv-loop μ-loop
-cast-places-2 c =
-    let a = c .before .before .before .before .before .args in
-    let v = c .before .before .loop in
-    let t = turn (a .width) (a .beats) (c .before .before .before .before .before .pre .0) (v .inv .0) (c .before .loop-test .taken) (c .end-from .ensures) in
-    omega arith
+slice-write-places c = let t = turn-at c in omega arith
 
 add-places : tie.Need-add-places Inv-loop μ-loop
-add-places c =
-    let a = c .before .before .before .before .before .args in
-    let v = c .before .before .loop in
-    let t = turn (a .width) (a .beats) (c .before .before .before .before .before .pre .0) (v .inv .0) (c .before .loop-test .taken) (c .end-from .ensures) in
-    omega arith
+add-places c = let t = turn-at c in omega arith
 
 mul-places-2 : tie.Need-mul-places-2 Inv-loop μ-loop
-mul-places-2 c =
-    let a = c .before .before .before .before .before .args in
-    let v = c .before .before .loop in
-    let t = turn (a .width) (a .beats) (c .before .before .before .before .before .pre .0) (v .inv .0) (c .before .loop-test .taken) (c .end-from .ensures) in
-    omega arith
+mul-places-2 c = let t = turn-at c in omega arith
 
 slice-write-places-2 : tie.Need-slice-write-places-2 Inv-loop μ-loop
-slice-write-places-2 c =
-    let a = c .before .before .before .before .before .args in
-    let v = c .before .before .loop in
-    let t = turn (a .width) (a .beats) (c .before .before .before .before .before .pre .0) (v .inv .0) (c .before .loop-test .taken) (c .end-from .ensures) in
-    simp length-set (omega arith)
+slice-write-places-2 c = let t = turn-at c in simp length-set (omega arith)
 
 add-place : tie.Need-add-place Inv-loop μ-loop
-add-place c =
-    let a = c .before .before .before .before .before .args in
-    let v = c .before .before .loop in
-    let t = turn (a .width) (a .beats) (c .before .before .before .before .before .pre .0) (v .inv .0) (c .before .loop-test .taken) (c .end-from .ensures) in
-    omega arith
+add-place c = let t = turn-at c in omega arith
+
+add-done : tie.Need-add-done Inv-loop μ-loop
+add-done c = let t = turn-at (c .before) in omega arith
 
 loop-less : tie.Need-loop-less Inv-loop μ-loop
-loop-less c =
-    let a = c .before .before .before .before .before .args in
-    let v = c .before .before .loop in
-    let t = turn (a .width) (a .beats) (c .before .before .before .before .before .pre .0) (v .inv .0) (c .before .loop-test .taken) (c .end-from .ensures) in
-    omega arith
+loop-less c = let t = turn-at (c .before) in omega arith
 
 loop-again : tie.Need-loop-again Inv-loop μ-loop
 loop-again c =
-    let a = c .before .before .before .before .before .args in
-    let v = c .before .before .loop in
-    let t = turn (a .width) (a .beats) (c .before .before .before .before .before .pre .0) (v .inv .0) (c .before .loop-test .taken) (c .end-from .ensures) in (
-      t .walk,
-      simp length-set (v .inv .1),
-      simp length-set (omega arith),
-      rw (add-one, add-two) (ap (λ (bs : List Burst). sets (v .places) (v .place) (placesOf bs)) (sym (t .first)) ∙ v .inv .3),
-    )
+    let f = c .before .before .before .before .before .before .before in
+    let v = c .before .before .before .loop in
+    fill-goes-on placesOf 2 (f .args .width) (f .args .beats) (f .args .start) (f .args .count) (c .before .before .before .before .before .span .result) (now (f .args .places))
+    (v .inv) (turn-at (c .before)) _ (simp length-set) (places-stored (v .places) (v .place) (c .before .burst-after .result))
 
 same-length : tie.Need-same-length Inv-loop μ-loop
-same-length c = c .before .loop .inv .1
+same-length c = c .before .loop .inv .kept
 
 returns : tie.Need-returns Inv-loop μ-loop
 returns c =
-    let a = c .before .before .before .before .args in
-    ap (λ (bs : List Burst). sets (c .before .loop .places) (c .before .loop .place) (placesOf bs)) (sym (cut-stop (a .width) (a .beats) (c .before .loop .at) (a .end) (c .loop-test .left)))
-    ∙ c .before .loop .inv .3
+    let f = c .before .before .before .before .before in
+    fill-ends placesOf 2 (f .args .width) (f .args .beats) (f .args .start) (f .args .count) (c .before .before .before .span .result) (now (f .args .places)) (c .before .loop .inv) (c .loop-test .left) refl
 
 pub places-spec : {M : Type 1} → statement M
 places-spec =
@@ -132,19 +88,17 @@ places-spec =
     (tie.spec
     Inv-loop
     μ-loop
-    mul-span
-    word-start-requires
+    span-requires
+    words-left-requires
     loop-holds
-    end-from-requires
-    cast-places
+    burst-after-requires
     mul-places
     slice-write-places
-    sub-places
-    cast-places-2
     add-places
     mul-places-2
     slice-write-places-2
     add-place
+    add-done
     loop-less
     loop-again
     same-length

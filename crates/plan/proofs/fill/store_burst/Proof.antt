@@ -5,7 +5,7 @@ use lib.Seq.{sets}
 use borrow.Author.Needs.{needs}
 use denote.Ref.{now}
 use Rattle.kit.specs.Word.{bytesOf}
-use Rattle.plan.proofs.Walk.{little-pair}
+use Rattle.plan.proofs.Filling.{little-pair}
 use Rattle.plan.proofs.fill.store_burst.Statement.{statement}
 use Rattle.plan.proofs.fill.store_burst.Tie as tie
 

@@ -3,57 +3,62 @@ use Prim.Native.Nat.{_+_, _-_}
 use lib.ListN.{length}
 use native.Mathlib.Omega.{arith}
 use borrow.Author.Needs.{needs}
+use Rattle.kit.proofs.Legal.{legal}
 use Rattle.cut.specs.Cut.{cut}
-use Rattle.cut.proofs.Cutting.{cut-stop}
-use Rattle.plan.proofs.Walk.{width-positive, span-fits, cut-count, Walk, asked, turn}
+use Rattle.plan.proofs.Walking.{Walk, Turn, rest, set-out, rest-all, rest-none, rest-count, turn}
 use Rattle.plan.proofs.measure.count_bursts.Statement.{statement}
 use Rattle.plan.proofs.measure.count_bursts.Tie as tie
 
 abbrev Inv-loop : tie.InvT-loop
-Inv-loop width beats start end span at₀ word₀ bursts₀ at word bursts = Walk width end at word × (bursts + length (cut width beats at end) ≡ length (cut width beats start end))
+Inv-loop width beats start count most words₀ done₀ bursts₀ words done bursts =
+    Walk width beats start count most words done × (bursts + length (rest width beats start count done) ≡ length (cut width beats start (start + count)))
 
 abbrev μ-loop : tie.MeasureT-loop
-μ-loop width beats start end span at₀ word₀ bursts₀ at word bursts = end - at
+μ-loop width beats start count most words₀ done₀ bursts₀ words done bursts = count - done
 
-mul-span : tie.Need-mul-span Inv-loop μ-loop
-mul-span c = span-fits (c .args .width) (c .args .beats) (c .pre .0)
+-- the turn that a burst is taken in
+turn-at : (c : tie.After-burst-after Inv-loop μ-loop)
+    → let a = c .before .before .before .before .before .args in
+    Turn (a .width) (a .beats) (a .start) (a .count) (c .before .before .before .before .span .result) (c .before .before .loop .done) (c .burst-after .result)
+turn-at c =
+    let f = c .before .before .before .before .before in
+    turn (f .args .width) (f .args .beats) (f .args .start) (f .args .count) (f .pre .0) (c .before .before .loop .inv .0) (c .before .loop-test .taken) (c .burst-after .result) (c .burst-after .ensures)
 
-word-start-requires : tie.Need-word-start-requires Inv-loop μ-loop
-word-start-requires c κs = width-positive (c .args .width) (c .args .beats) (c .pre .0)
+span-requires : tie.Need-span-requires Inv-loop μ-loop
+span-requires c κs = search needs
+
+words-left-requires : tie.Need-words-left-requires Inv-loop μ-loop
+words-left-requires c κs =
+    let g = legal (c .before .args .width) (c .before .args .beats) (c .before .pre .0) in
+    (g .width-positive, g .beats-positive)
 
 loop-holds : tie.Need-loop-holds Inv-loop μ-loop
-loop-holds c = (record { within = search needs; below = search needs; aligned = λ h. c .word-start .ensures }, omega arith)
+loop-holds c =
+    let a = c .before .before .args in
+    (set-out (a .width) (a .beats) (a .start) (a .count) (c .before .span .ensures) (c .words-left .ensures), omega (arith, ap length (rest-all (a .width) (a .beats) (a .start) (a .count))))
 
-end-from-requires : tie.Need-end-from-requires Inv-loop μ-loop
-end-from-requires c κs =
-    let a = c .before .before .before .args in
-    asked (a .width) (a .beats) (c .before .before .before .pre .0) (c .before .loop .inv .0) (c .loop-test .taken)
+burst-after-requires : tie.Need-burst-after-requires Inv-loop μ-loop
+burst-after-requires c κs = (c .loop-test .taken, c .before .before .before .before .pre .1)
+
+add-done : tie.Need-add-done Inv-loop μ-loop
+add-done c = let t = turn-at (c .before) in omega arith
 
 add-bursts : tie.Need-add-bursts Inv-loop μ-loop
 add-bursts c =
-    let a = c .before .before .before .before .args in
-    let v = c .before .before .loop in
-    let t = turn (a .width) (a .beats) (c .before .before .before .before .pre .0) (v .inv .0) (c .before .loop-test .taken) (c .end-from .ensures) in
-    omega (arith, cut-count (a .width) (a .beats) (c .before .before .before .before .pre .0) (a .start) (a .end))
+    let f = c .before .before .before .before .before .before in
+    let t = turn-at (c .before) in
+    omega (arith, ap length (rest-all (f .args .width) (f .args .beats) (f .args .start) (f .args .count)), rest-count (f .args .width) (f .args .beats) (f .args .start) (f .args .count) (f .pre .0) 0)
 
 loop-less : tie.Need-loop-less Inv-loop μ-loop
-loop-less c =
-    let a = c .before .before .before .before .args in
-    let v = c .before .before .loop in
-    let t = turn (a .width) (a .beats) (c .before .before .before .before .pre .0) (v .inv .0) (c .before .loop-test .taken) (c .end-from .ensures) in
-    omega arith
+loop-less c = let t = turn-at (c .before) in omega arith
 
 loop-again : tie.Need-loop-again Inv-loop μ-loop
-loop-again c =
-    let a = c .before .before .before .before .args in
-    let v = c .before .before .loop in
-    let t = turn (a .width) (a .beats) (c .before .before .before .before .pre .0) (v .inv .0) (c .before .loop-test .taken) (c .end-from .ensures) in
-    (t .walk, omega arith)
+loop-again c = let t = turn-at (c .before) in (t .walk, omega arith)
 
 returns : tie.Need-returns Inv-loop μ-loop
 returns c =
-    let a = c .before .before .before .args in
-    omega (arith, ap length (cut-stop (a .width) (a .beats) (c .before .loop .at) (a .end) (c .loop-test .left)))
+    let a = c .before .before .before .before .args in
+    omega (arith, ap length (rest-none (a .width) (a .beats) (a .start) (a .count) (c .before .loop .done) (c .loop-test .left)))
 
 pub count-bursts-spec : {M : Type 1} → statement M
 count-bursts-spec =
@@ -61,10 +66,11 @@ count-bursts-spec =
     (tie.spec
     Inv-loop
     μ-loop
-    mul-span
-    word-start-requires
+    span-requires
+    words-left-requires
     loop-holds
-    end-from-requires
+    burst-after-requires
+    add-done
     add-bursts
     loop-less
     loop-again

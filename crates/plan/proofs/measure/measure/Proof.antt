@@ -1,16 +1,24 @@
-use mathlib.Core.Path.{refl, sym, ap, subst, _∙_}
+use mathlib.Core.Path.{_≡_, refl, sym, ap, subst, _∙_}
 use Prim.Native.Nat.{ℕ, _*_, _<_, _≤_}
-use native.Mathlib.Omega.{arith}
+use mathlib.Core.Bool.{true, false}
 use borrow.Author.Needs.{needs}
 use borrow.Author.Tests.{lt-ltb, le-ltb, not-true, not-false}
+use Rattle.kit.specs.Settings.{legalSettings}
 use Rattle.kit.proofs.Choice.{yes, no}
-use Rattle.plan.specs.Plan.{Measured, measureOf}
+use Rattle.plan.specs.Plan.{Measured, outOfRange, measureOf}
 use Rattle.plan.proofs.Planning.{in-range}
 use Rattle.plan.proofs.measure.measure.Statement.{statement}
 use Rattle.plan.proofs.measure.measure.Tie as tie
 
 counted : ℕ → Measured
 counted n = record { answer = 0; bursts = n }
+
+-- what is known once the settings, and then the range, are not refused
+legal-at : (c : tie.Else1) → legalSettings (c .before .before .args .width) (c .before .before .args .beats) ≡ true
+legal-at c = sym (c .before .legal .ensures) ∙ not-false _ (c .if1 .left)
+
+range-at : (c : tie.Else2) → outOfRange (c .before .before .before .before .args .start) (c .before .before .before .before .args .count) ≡ false
+range-at c = sym (c .before .out-of-range .ensures) ∙ c .if2 .left
 
 legal-requires : tie.Need-legal-requires
 legal-requires c κs = search needs
@@ -24,16 +32,12 @@ out-of-range-requires c κs = search needs
 
 returns-2 : tie.Need-returns-2
 unfolding measureOf
-returns-2 c = yes _ (sym (c .before .before .before .legal .ensures) ∙ not-false _ (c .before .before .if1 .left)) (yes _ (sym (c .before .out-of-range .ensures) ∙ c .if2 .taken) refl)
-
-add-count-bursts : tie.Need-add-count-bursts
-add-count-bursts c = search needs
+returns-2 c = yes _ (legal-at (c .before .before)) (yes _ (sym (c .before .out-of-range .ensures) ∙ c .if2 .taken) refl)
 
 count-bursts-requires : tie.Need-count-bursts-requires
 count-bursts-requires c κs =
     let a = c .before .before .before .before .args in
-    let r = in-range (a .start) (a .count) (sym (c .before .out-of-range .ensures) ∙ c .if2 .left) in
-    ((sym (c .before .before .before .legal .ensures) ∙ not-false _ (c .before .before .if1 .left)), (omega arith, (omega arith, omega arith)))
+    (legal-at (c .before .before), in-range (a .start) (a .count) (range-at c) .inside)
 
 cast-if3 : tie.Need-cast-if3
 cast-if3 c = search needs
@@ -44,16 +48,19 @@ mul-if3 c = search needs
 returns-3 : tie.Need-returns-3
 unfolding measureOf
 returns-3 c =
-    let a = c .before .before .before .before .before .before .args in
-    let n = c .before .count-bursts .ensures in
-    yes _ (sym (c .before .before .before .before .before .legal .ensures) ∙ not-false _ (c .before .before .before .before .if1 .left)) (no _ (sym (c .before .before .before .out-of-range .ensures) ∙ c .before .before .if2 .left) (yes _ (lt-ltb _ _ (subst (λ (k : ℕ). a .room < 2 * k) n (c .if3 .taken))) refl))
+    let d = c .before .before in
+    let room = d .before .before .before .before .args .room in
+    yes _ (legal-at (d .before .before))
+    (no _ (range-at d) (yes _ (lt-ltb _ _ (subst (λ (k : ℕ). room < 2 * k) (c .before .count-bursts .ensures) (c .if3 .taken))) refl))
 
 returns-4 : tie.Need-returns-4
 unfolding measureOf counted
 returns-4 c =
-    let a = c .before .before .before .before .before .before .args in
+    let d = c .before .before in
     let n = c .before .count-bursts .ensures in
-    yes _ (sym (c .before .before .before .before .before .legal .ensures) ∙ not-false _ (c .before .before .before .before .if1 .left)) (no _ (sym (c .before .before .before .out-of-range .ensures) ∙ c .before .before .if2 .left) (no _ (le-ltb _ _ (subst (λ (k : ℕ). 2 * k ≤ a .room) n (c .if3 .left))) (ap (λ (k : ℕ). counted k) n)))
+    let room = d .before .before .before .before .args .room in
+    yes _ (legal-at (d .before .before))
+    (no _ (range-at d) (no _ (le-ltb _ _ (subst (λ (k : ℕ). 2 * k ≤ room) n (c .if3 .left))) (ap counted n)))
 
 pub measure-spec : {M : Type 1} → statement M
 measure-spec =
@@ -63,7 +70,6 @@ measure-spec =
     returns
     out-of-range-requires
     returns-2
-    add-count-bursts
     count-bursts-requires
     cast-if3
     mul-if3

@@ -1,10 +1,26 @@
 /*
- * Belikumba for C and C++: the functions of target/host/libbelikumba.a, which `./belikumba lib` proves and builds.
+ * Belikumba for C and C++: the functions of libbelikumba, which `./belikumba lib` proves and builds, as an archive and as a
+ * shared library. The rules are in docs/RULES.md.
  *
- * Each takes any numbers and any lent bytes, and always ends. What it cannot do it refuses with the number that
- * document 01, "Numbered answers", fixes for that; beside a refusal every other number handed back is 0 and nothing
- * that was lent changes. None keeps what it was lent, holds a state of its own or calls the system: it may be called
- * from any thread. What is lent to one call must not overlap, but for parts that are only read.
+ * Each function takes any numbers and any lent bytes, and always ends. What it cannot do it refuses with a status code,
+ * called the answer (RULES.md 2). If the answer is not 0, every other number handed back is 0 and nothing that was lent
+ * changes. No function keeps what it was lent, has a state of its own or makes a system call: it may be called from any
+ * thread. What is lent to one call must not overlap, except for parts that are only read.
+ *
+ * A copy of 16 bytes from address 256 to 4088, in memory of 8,192 bytes:
+ *
+ *     static uint8_t memory[8192];
+ *     uint32_t engine[BELIKUMBA_ENGINE_WORDS] = {4, 16};                  // a fresh engine: 4 bytes wide, 16 beats
+ *     belikumba_write(engine, BELIKUMBA_CDMACR, BELIKUMBA_CDMACR_IOC_IRQEN);
+ *     belikumba_write(engine, BELIKUMBA_SA, 256);
+ *     belikumba_write(engine, BELIKUMBA_DA, 4088);
+ *     belikumba_write(engine, BELIKUMBA_BTT, 16);                         // starts
+ *     belikumba_run(engine, memory, sizeof memory, NULL, 0, 65535);       // two steps: a page ends at 4096
+ *     uint32_t status = belikumba_read(engine, BELIKUMBA_CDMASR).value;
+ *     if (status & BELIKUMBA_CDMASR_IOC_IRQ) puts("copied");
+ *     if (status & BELIKUMBA_CDMASR_ERRORS) puts("failed");
+ *
+ * Build: cc -Iinclude program.c target/host/libbelikumba.a, or after `./belikumba lib --prefix DIR` with pkg-config belikumba.
  */
 #ifndef BELIKUMBA_H
 #define BELIKUMBA_H
@@ -16,12 +32,12 @@
 extern "C" {
 #endif
 
-/* The numbered answers that the functions below give. */
+/* The answers that the functions below give (RULES.md 2.1). */
 enum belikumba_answer {
     BELIKUMBA_DONE = 0,
     BELIKUMBA_SETTINGS = 1,     /* width not 4, 8, 16, 32, 64 or 128, or beats not 2, 4, 8, 16, 32, 64, 128 or 256 */
     BELIKUMBA_MEMORY_SIZE = 2,  /* memory longer than 16,777,216 bytes */
-    BELIKUMBA_OFFSET = 3,       /* no register stands at this offset */
+    BELIKUMBA_OFFSET = 3,       /* there is no register at this offset */
     BELIKUMBA_BUSY = 4,         /* write ignored: the engine is busy, or in the wrong mode */
     BELIKUMBA_ERROR_SET = 5,    /* write ignored: an error bit is set */
     BELIKUMBA_WINDOW_COUNT = 6, /* more than 16 windows */
@@ -31,11 +47,11 @@ enum belikumba_answer {
     BELIKUMBA_CLOCK = 13        /* a field of the bus clock is out of range */
 };
 
-/* ---- Plan: document 01, "Cutting a transfer" ---- */
+/* ---- Plan (RULES.md 3) ---- */
 
 struct belikumba_planned {
-    uint32_t answer; /* 0, 1, 7 or 8 of the answers above */
-    uint32_t bursts; /* the number of bursts written; 0 beside every answer but 0 */
+    uint32_t answer; /* 0, 1, 7 or 8 */
+    uint32_t bursts; /* the number of bursts written; 0 if the answer is not 0 */
 };
 
 /*
@@ -54,16 +70,77 @@ struct belikumba_planned {
  *
  *     1    width or beats is not one of those listed above
  *     7    count is 0 or above 8,388,607, or start + count is above 2^32 (equal to 2^32 is allowed)
- *     8    length / 4 is less than twice the number of bursts; how many are wanted is not told
+ *     8    length / 4 is less than twice the number of bursts; how many are needed is not said
  *     0    done
  *
  * On 0, the first 8 * bursts bytes are written and those past them keep what they held. On 1, 7 and 8 all `length`
- * bytes keep it. `places` needs no alignment, and may be a null pointer where `length` is 0.
+ * bytes keep it. `places` needs no alignment, and may be a null pointer if `length` is 0.
  */
 struct belikumba_planned belikumba_plan(uint32_t width, uint32_t beats, uint32_t start, uint32_t count, uint8_t *places,
                                         size_t length);
 
-/* ---- Engine: document 01, "Registers" and "Descriptor and steps" ---- */
+/* ---- Registers (RULES.md 5) ---- */
+
+enum belikumba_register {
+    BELIKUMBA_CDMACR = 0x00,
+    BELIKUMBA_CDMASR = 0x04,
+    BELIKUMBA_CURDESC = 0x08,
+    BELIKUMBA_CURDESC_MSB = 0x0C, /* the upper halves: written without effect, read 0 */
+    BELIKUMBA_TAILDESC = 0x10,
+    BELIKUMBA_TAILDESC_MSB = 0x14,
+    BELIKUMBA_SA = 0x18,
+    BELIKUMBA_SA_MSB = 0x1C,
+    BELIKUMBA_DA = 0x20,
+    BELIKUMBA_DA_MSB = 0x24,
+    BELIKUMBA_BTT = 0x28
+};
+
+enum belikumba_cdmacr {
+    BELIKUMBA_CDMACR_TAILPNTREN = 1 << 1, /* always reads 1 */
+    BELIKUMBA_CDMACR_RESET = 1 << 2,
+    BELIKUMBA_CDMACR_SGMODE = 1 << 3, /* chain mode */
+    BELIKUMBA_CDMACR_IOC_IRQEN = 1 << 12,
+    BELIKUMBA_CDMACR_ERR_IRQEN = 1 << 14,
+    BELIKUMBA_CDMACR_IRQTHRESHOLD = 0xFF << 16 /* a field that always reads 1 */
+};
+
+enum belikumba_cdmasr {
+    BELIKUMBA_CDMASR_IDLE = 1 << 1,
+    BELIKUMBA_CDMASR_SGINCLD = 1 << 3,    /* always reads 1 */
+    BELIKUMBA_CDMASR_DMAINTERR = 1 << 4,  /* a count of 0 */
+    BELIKUMBA_CDMASR_DMASLVERR = 1 << 5,  /* slave error in a burst */
+    BELIKUMBA_CDMASR_DMADECERR = 1 << 6,  /* decode error in a burst */
+    BELIKUMBA_CDMASR_SGINTERR = 1 << 8,   /* a descriptor that was complete already */
+    BELIKUMBA_CDMASR_SGSLVERR = 1 << 9,   /* slave error in a descriptor */
+    BELIKUMBA_CDMASR_SGDECERR = 1 << 10,  /* decode error in a descriptor */
+    BELIKUMBA_CDMASR_IOC_IRQ = 1 << 12,   /* write 1 to clear */
+    BELIKUMBA_CDMASR_ERR_IRQ = 1 << 14,   /* write 1 to clear */
+    BELIKUMBA_CDMASR_ERRORS = 0x770,      /* the six error bits; only a reset clears them */
+    BELIKUMBA_CDMASR_IRQTHRESHOLDSTS = 0xFF << 16 /* a field that always reads 1 */
+};
+
+/* ---- Descriptor (RULES.md 6.1) ---- */
+
+/* 32 bytes at a multiple of 64; each field is a word, its lowest byte first. */
+enum belikumba_descriptor {
+    BELIKUMBA_DESCRIPTOR_NEXT = 0x00,
+    BELIKUMBA_DESCRIPTOR_SOURCE = 0x08,
+    BELIKUMBA_DESCRIPTOR_DESTINATION = 0x10,
+    BELIKUMBA_DESCRIPTOR_CONTROL = 0x18, /* the byte count, in bits 22..0 */
+    BELIKUMBA_DESCRIPTOR_STATUS = 0x1C,
+    BELIKUMBA_DESCRIPTOR_BYTES = 32,
+    BELIKUMBA_DESCRIPTOR_ALIGNMENT = 64
+};
+
+/* The status word of a descriptor, by the number of the one bit that an update sets: 1u << BELIKUMBA_STATUS_COMPLETE. */
+enum belikumba_status {
+    BELIKUMBA_STATUS_INTERNAL = 28,
+    BELIKUMBA_STATUS_SLAVE = 29,
+    BELIKUMBA_STATUS_DECODE = 30,
+    BELIKUMBA_STATUS_COMPLETE = 31
+};
+
+/* ---- Engine (RULES.md 5 and 6) ---- */
 
 /*
  * An engine is kept by its caller, in 20 numbers that each call is lent:
@@ -75,7 +152,7 @@ struct belikumba_planned belikumba_plan(uint32_t width, uint32_t beats, uint32_t
  *      4  Err_IrqEn, 0 or 1                  12  SA
  *      5  the number of the CDMASR error     13  DA
  *         bit that is set, 4, 5, 6, 8, 9     14  BTT
- *         or 10; 0 where none is             15  the phase: 0 idle, 1 fetch, 2 move, 28 to 31 update, which
+ *         or 10; 0 if none is                15  the phase: 0 idle, 1 fetch, 2 move, 28 to 31 update, which
  *      6  IOC_Irq, 0 or 1                        is to write the status word with this bit alone set
  *      7  Err_Irq, 0 or 1                    16  of the transfer that moves: its source
  *                                            17  its destination
@@ -84,14 +161,14 @@ struct belikumba_planned belikumba_plan(uint32_t width, uint32_t beats, uint32_t
  *
  * A fresh engine has its width and beats and 0 in all other words: uint32_t engine[BELIKUMBA_ENGINE_WORDS] = {4, 16};
  *
- * Any numbers may be lent. The words that no engine has, and those of an engine that is not well formed, get answer 9.
- * Each engine has one list of words: two engines are the same where their words are.
+ * Any numbers may be lent. Words that no engine has, and those of an engine that is not well formed, get answer 9.
+ * Each engine has one list of words: two engines are the same if their words are.
  */
 #define BELIKUMBA_ENGINE_WORDS 20
 
 struct belikumba_value {
     uint32_t answer; /* 0, 1, 3 or 9 */
-    uint32_t value;  /* the register's value, or 1 where the line is high; 0 beside every answer but 0 */
+    uint32_t value;  /* the register's value, or 1 if the line is high; 0 if the answer is not 0 */
 };
 
 /* Reads the register at `offset`: answers 1, 9, 3, the first that holds, or 0 beside its value. */
@@ -103,10 +180,10 @@ struct belikumba_value belikumba_read(const uint32_t engine[BELIKUMBA_ENGINE_WOR
  */
 uint32_t belikumba_write(uint32_t engine[BELIKUMBA_ENGINE_WORDS], uint32_t offset, uint32_t value);
 
-/* The interrupt line: answers 1 and 9 in this order, or 0 beside 1 where the line is high. */
+/* The interrupt line: answers 1 and 9 in this order, or 0 beside 1 if the line is high. */
 struct belikumba_value belikumba_interrupt_line(const uint32_t engine[BELIKUMBA_ENGINE_WORDS]);
 
-/* What a step did, and the two numbers that a listing has for it. */
+/* What a step did, and the two numbers that a listing has for it (RULES.md 6.7). */
 enum belikumba_event {
     BELIKUMBA_NONE = 0,   /* the engine was idle, or the step was refused: 0, 0 */
     BELIKUMBA_FETCH = 1,  /* current pointer, 0 */
@@ -124,23 +201,24 @@ struct belikumba_stepped {
 };
 
 /*
- * One step over the `memory_bytes` bytes of memory. `windows` holds sick windows, start and length in turn, in
- * `window_numbers` numbers, two a window; an odd last number is of no use. The answer is 1, 2, 6, 9, the first that
- * holds, or 0. Memory and windows may be null pointers where their length is 0, and may change between two steps.
+ * One step over the `memory_bytes` bytes of memory. `windows` holds sick windows, that is faulty regions, which answer
+ * slave error (RULES.md 4): start and length in turn, in `window_numbers` numbers, two a window; an odd last number is of no
+ * use. The answer is 1, 2, 6, 9, the first that holds, or 0. Memory and windows may be null pointers if their length is 0,
+ * and may change between two steps.
  */
 struct belikumba_stepped belikumba_step(uint32_t engine[BELIKUMBA_ENGINE_WORDS], uint8_t *memory, size_t memory_bytes,
                                         const uint32_t *windows, size_t window_numbers);
 
 struct belikumba_ran {
     uint32_t answer; /* 0, 1, 2, 6 or 9 */
-    uint32_t steps;  /* the number of steps taken; 0 beside every answer but 0 */
+    uint32_t steps;  /* the number of steps taken; 0 if the answer is not 0 */
 };
 
 /* Steps until the engine is idle or `most` steps are taken; refused as a step is, once, at its start. */
 struct belikumba_ran belikumba_run(uint32_t engine[BELIKUMBA_ENGINE_WORDS], uint8_t *memory, size_t memory_bytes,
                                    const uint32_t *windows, size_t window_numbers, uint16_t most);
 
-/* ---- Monitor: document 01, "Bus clocks" ---- */
+/* ---- Monitor (RULES.md 7) ---- */
 
 /*
  * A monitor of the read-address bus is kept by its caller, in 14 numbers that each call is lent:
@@ -153,12 +231,19 @@ struct belikumba_ran belikumba_run(uint32_t engine[BELIKUMBA_ENGINE_WORDS], uint
  */
 #define BELIKUMBA_MONITOR_WORDS 14
 
+/* The bits of a clock's `bits`. */
+enum belikumba_clock_bit {
+    BELIKUMBA_CLOCK_RESET_HIGH = 1 << 0, /* out of reset */
+    BELIKUMBA_CLOCK_VALID = 1 << 1,
+    BELIKUMBA_CLOCK_READY = 1 << 2
+};
+
 struct belikumba_clock {
-    uint32_t bits; /* bit 0 reset-high (out of reset), bit 1 valid, bit 2 ready; at most 7 */
+    uint32_t bits; /* of enum belikumba_clock_bit; at most 7 */
     uint32_t address;
     uint32_t length; /* beats less 1, at most 255 */
-    uint32_t size;   /* at most 7 */
-    uint32_t burst;  /* at most 3 */
+    uint32_t size;   /* a beat has 2^size bytes; at most 7 */
+    uint32_t burst;  /* 0 fixed, 1 incrementing, 2 wrapping; at most 3 */
     uint32_t cache;  /* at most 15 */
     uint32_t prot;   /* at most 7 */
     uint32_t qos;    /* at most 15 */
@@ -168,7 +253,7 @@ struct belikumba_clock {
 
 struct belikumba_clocked {
     uint32_t answer; /* 0, 1, 9 or 13 */
-    uint32_t count;  /* how many flags are up; 0 beside every answer but 0 */
+    uint32_t count;  /* how many flags are up; 0 if the answer is not 0 */
     uint32_t lowest; /* the number of the lowest flag that is up, or 0 */
 };
 

@@ -1,0 +1,130 @@
+# A trace from its text: writes the bytes of each record as decimal numbers, a line a record; the caller makes bytes of them.
+# `./belikumba help trace` says how a text is written. A wrong line is named by its number with what was expected.
+
+function fail(expected) {
+    printf "%s:%d: expected %s\n", name, FNR, expected | "cat 1>&2"
+    failed = 1
+    exit 2
+}
+
+# The value of a number in decimal, or in hex after 0x; at most the one given.
+function number(text, most, what,    base, start, value, at, digit) {
+    base = text ~ /^0[xX]/ ? 16 : 10
+    start = base == 16 ? 3 : 1
+    value = length(text) < start ? -1 : 0
+    for (at = start; value >= 0 && at <= length(text); at++) {
+        digit = (base == 16) ? index("0123456789abcdef", tolower(substr(text, at, 1))) - 1 : index("0123456789", substr(text, at, 1)) - 1
+        value = digit < 0 || value > most ? -1 : value * base + digit
+    }
+    if (value < 0 || value > most) fail("as " what " a number from 0 to " sprintf("%.0f", most) ", in decimal or in hex after 0x, and not '" text "'")
+    return value
+}
+
+function put(value, size) {
+    for (; size > 0; size--) {
+        out = out " " value % 256
+        value = int(value / 256)
+    }
+}
+function word(text, what) { put(number(text, 4294967295, what), 4) }
+function half(text, what) { put(number(text, 65535, what), 2) }
+
+# Bytes in hex from a field on, ff*6 for six of them; gives their number.
+function data(from,    at, star, times, text, count) {
+    count = 0
+    for (at = from; at <= NF; at++) {
+        star = index($at, "*")
+        times = star ? number(substr($at, star + 1), 65535, "the times of a byte") : 1
+        text = tolower(star ? substr($at, 1, star - 1) : $at)
+        if (!(text in byte)) fail("a byte in hex, as 0f or 0f*6, and not '" $at "'")
+        count += times
+        for (; times > 0; times--) out = out " " byte[text]
+    }
+    return count
+}
+
+# Takes the name=value parts from a field on.
+function named(from, known,    at, place, name) {
+    split("", value)
+    for (at = from; at <= NF; at++) {
+        place = index($at, "=")
+        name = substr($at, 1, place - 1)
+        if (place < 2 || index(" " known " ", " " name " ") == 0) fail("NAME=NUMBER, with a name of: " known "; and not '" $at "'")
+        if (name in value) fail(name " once, and not twice")
+        value[name] = substr($at, place + 1)
+    }
+}
+function given(name) { return name in value ? value[name] : "0" }
+
+function memory(    before, count, bytes) {
+    word($3, "address")
+    if (NF >= 4 && index($4, "=") > 0) {
+        named(4, "next source destination control status")
+        put(32, 2)
+        word(given("next"), "next"); put(0, 4)
+        word(given("source"), "source"); put(0, 4)
+        word(given("destination"), "destination"); put(0, 4)
+        word(given("control"), "control"); word(given("status"), "status")
+        return
+    }
+    # The length comes before the bytes and is known after them.
+    before = out
+    out = ""
+    count = data(4)
+    bytes = out
+    out = before
+    if (count > 65535) fail("at most 65535 bytes, and not " count)
+    put(count, 2)
+    out = out bytes
+}
+
+function bus(    count, at, names) {
+    named(3, "bits length size burst cache prot qos region id address")
+    count = split("bits length size burst cache prot qos region", names, " ")
+    for (at = 1; at <= count; at++) put(number(given(names[at]), 255, names[at]), 1)
+    word(given("id"), "id"); word(given("address"), "address")
+}
+
+BEGIN {
+    for (i = 0; i < 256; i++) {
+        text = substr("0123456789abcdef", int(i / 16) + 1, 1) substr("0123456789abcdef", i % 16 + 1, 1)
+        byte[text] = i
+        if (i < 16) byte[substr(text, 2)] = i
+    }
+    shape["CF"] = "CF SEQUENCE WIDTH BEATS"; marks["CF"] = " 67 70"; parts["CF"] = 4
+    shape["MM"] = "MM SEQUENCE ADDRESS BYTES.. or MM SEQUENCE ADDRESS NAME=NUMBER.."; marks["MM"] = " 77 77"; parts["MM"] = 0
+    shape["SW"] = "SW SEQUENCE START LENGTH"; marks["SW"] = " 83 87"; parts["SW"] = 4
+    shape["WR"] = "WR SEQUENCE OFFSET VALUE"; marks["WR"] = " 87 82"; parts["WR"] = 4
+    shape["RD"] = "RD SEQUENCE OFFSET"; marks["RD"] = " 82 68"; parts["RD"] = 3
+    shape["ST"] = "ST SEQUENCE STEPS"; marks["ST"] = " 83 84"; parts["ST"] = 3
+    shape["AR"] = "AR SEQUENCE NAME=NUMBER.."; marks["AR"] = " 65 82"; parts["AR"] = 0
+}
+
+# A text from Windows has a mark in front, and CR before each line feed.
+FNR == 1 { sub(/^\357\273\277/, "") }
+{
+    sub(/\r$/, "")
+    sub(/#.*/, "")
+}
+NF == 0 { next }
+{ out = "" }
+$1 == "RAW" {
+    data(2)
+    print out
+    next
+}
+!($1 in marks) { fail("CF, MM, SW, WR, RD, ST, AR or RAW at the start of a line, and not '" $1 "'") }
+NF < 2 || (parts[$1] && NF != parts[$1]) || ($1 == "MM" && NF < 3) { fail(shape[$1] ", and not " NF " parts") }
+{
+    out = marks[$1]
+    word($2, "sequence number")
+}
+$1 == "CF" { half($3, "width"); half($4, "beats") }
+$1 == "MM" { memory() }
+$1 == "SW" { word($3, "start"); word($4, "length") }
+$1 == "WR" { half($3, "offset"); word($4, "value") }
+$1 == "RD" { half($3, "offset") }
+$1 == "ST" { half($3, "steps") }
+$1 == "AR" { bus() }
+{ print out }
+END { if (failed) exit 2 }

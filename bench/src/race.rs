@@ -9,7 +9,7 @@ const ROUNDS: u32 = 300;
 const RACE: Duration = Duration::from_millis(400);
 const FEWEST_ROUNDS: u32 = 5;
 
-/// What a round should take at least, so that reading the clock does not show, and a quiet round is likely.
+/// What a round should take at least, so reading the clock does not show, and a quiet round is likely.
 const ROUND: Duration = Duration::from_millis(1);
 
 /// Nanoseconds for one unit of work.
@@ -18,7 +18,7 @@ pub struct Times {
     pub plain: f64,
 }
 
-/// Times both sides on the same `shared` buffers, in turn, so that a slow spell meets both alike.
+/// Times both sides on the same `shared` buffers, in turn, so a slow spell meets both alike.
 /// Each call of a side does `units` of work.
 pub fn race<T: ?Sized>(
     units: u64,
@@ -52,16 +52,10 @@ fn time<T: ?Sized>(calls: u32, shared: &mut T, work: &impl Fn(&mut T)) -> Durati
 
 /// Starts a table: what a row is about, and the unit of its times.
 pub fn print_heading(about: &str, unit: &str) {
-    println!(
-        "{:<44}{:>10}{:>12}{:>9}",
-        format!("{about}: {unit}"),
-        "proved",
-        "plain Rust",
-        "ratio"
-    );
+    println!("{:<52}{:>10}{:>12}{:>9}", format!("{about}: {unit}"), "proved", "Rust", "ratio");
 }
 
 pub fn print_row(what: &str, times: &Times) {
     let ratio = times.proved / times.plain;
-    println!("{what:<44}{:>10.2}{:>12.2}{ratio:>9.2}", times.proved, times.plain);
+    println!("{what:<52}{:>10.2}{:>12.2}{ratio:>9.2}", times.proved, times.plain);
 }

@@ -1,36 +1,49 @@
-// The whole program: target/bin/replay beside the independent one, as processes on the same traces, best of several runs.
+// The whole program: target/bin/replay beside the independent one, as processes on the same traces.
 
 use crate::race::{print_heading, print_row, Times};
 use std::fs::File;
 use std::path::Path;
 use std::process::{Command, Stdio};
-use std::time::Instant;
+use std::time::{Duration, Instant};
 
-const ROUNDS: usize = 9;
+const RECORDS: f64 = 200_000.0;
 
-/// Seconds of one run with the trace as standard input; the listing goes nowhere.
-fn run(program: &Path, trace: &Path) -> f64 {
-    let input = File::open(trace).expect("the trace can be read");
+/// A race ends after this long, but not before each side has run so often. The best run counts.
+const RACE: Duration = Duration::from_secs(3);
+const FEWEST_ROUNDS: u32 = 15;
+
+fn start(program: &Path, trace: &Path) -> Command {
+    let mut command = Command::new(program);
+    command.stdin(File::open(trace).expect("the trace can be read"));
+    command
+}
+
+fn listing(program: &Path, trace: &Path) -> Vec<u8> {
+    start(program, trace).output().expect("the program can be run").stdout
+}
+
+/// Nanoseconds of one run; the listing goes nowhere.
+fn time(program: &Path, trace: &Path) -> f64 {
+    let mut command = start(program, trace);
     let begun = Instant::now();
-    Command::new(program)
-        .stdin(input)
-        .stdout(Stdio::null())
-        .status()
-        .expect("the program can be run");
-    begun.elapsed().as_secs_f64()
+    command.stdout(Stdio::null()).status().expect("the program can be run");
+    begun.elapsed().as_nanos() as f64
 }
 
 pub fn bench(folder: &Path) {
     let proved = folder.join("bin/replay");
-    let independent = folder.join("independent/release/independent");
+    let plain = folder.join("cargo/release/independent");
     print_heading("replay", "nanoseconds a record");
     for kind in ["mixed", "bus", "copies", "chains"] {
         let trace = folder.join(format!("bench/{kind}.trace"));
-        let records = 200_000.0;
+        assert!(listing(&proved, &trace) == listing(&plain, &trace), "{kind}: two listings");
         let mut times = Times { proved: f64::MAX, plain: f64::MAX };
-        for _ in 0..ROUNDS {
-            times.proved = times.proved.min(run(&proved, &trace) * 1e9 / records);
-            times.plain = times.plain.min(run(&independent, &trace) * 1e9 / records);
+        let begun = Instant::now();
+        let mut rounds = 0;
+        while rounds < FEWEST_ROUNDS || begun.elapsed() < RACE {
+            times.proved = times.proved.min(time(&proved, &trace) / RECORDS);
+            times.plain = times.plain.min(time(&plain, &trace) / RECORDS);
+            rounds += 1;
         }
         print_row(&format!("200,000 records, {kind}"), &times);
     }

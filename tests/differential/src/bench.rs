@@ -2,9 +2,10 @@
 
 use crate::clocks;
 use crate::families::{play, FIXED};
-use crate::maker::{descriptor, Maker, CHAIN, CONTROL, COUNT, CURRENT, DESTINATION, SOURCE, TAIL};
-use crate::random::Random;
-use crate::shadow::MEMORY;
+use crate::maker::{Maker, MEMORY};
+use shared::random::Random;
+use shared::record::descriptor;
+use shared::registers::{BTT, CDMACR, CHAIN, CURDESC, DA, SA, TAILDESC};
 
 /// The kinds of traces.
 pub const KINDS: [&str; 4] = ["mixed", "bus", "copies", "chains"];
@@ -18,8 +19,8 @@ pub fn make(kind: &str, count: usize) -> Vec<u8> {
         maker.settings(4, 16);
     }
     if kind == "chains" {
-        maker.write(CONTROL, CHAIN);
-        maker.write(CURRENT, 0);
+        maker.write(CDMACR, CHAIN);
+        maker.write(CURDESC, 0);
     }
     while !maker.ended {
         match kind {
@@ -37,9 +38,9 @@ fn copy(maker: &mut Maker) {
     let count = maker.random.between(1, 512);
     let source = maker.random.below(MEMORY - count);
     let destination = maker.random.below(MEMORY - count);
-    maker.write(SOURCE, source);
-    maker.write(DESTINATION, destination);
-    maker.write(COUNT, count);
+    maker.write(SA, source);
+    maker.write(DA, destination);
+    maker.write(BTT, count);
     maker.steps(20);
 }
 
@@ -58,6 +59,6 @@ fn chain(maker: &mut Maker) {
         bytes.extend([0; 32]);
     }
     maker.memory(0, bytes);
-    maker.write(TAIL, (RING - 1) * 64);
+    maker.write(TAILDESC, (RING - 1) * 64);
     maker.steps(1000);
 }

@@ -2,16 +2,16 @@
 // single cases at the edges of the record rules.
 
 use crate::damage::{BAD_SETTINGS, UNKNOWN_MARKS};
-use crate::maker::descriptor;
-use crate::random::Random;
-use crate::record::{Bus, Record};
-use crate::shadow::MEMORY;
+use crate::maker::{Record, MEMORY};
+use independent::record::Bus;
+use shared::random::Random;
+use shared::record::{descriptor, encode};
 
 /// A trace with the numbers 1, 2, 3 and so on.
 fn numbered(all: &[Record]) -> Vec<u8> {
     let mut bytes = Vec::new();
     for (at, record) in all.iter().enumerate() {
-        record.encode(at as u32 + 1, &mut bytes);
+        encode(record, at as u32 + 1, &mut bytes);
     }
     bytes
 }
@@ -23,11 +23,15 @@ fn write(offset: u16, value: u32) -> Record {
 /// The whole case of document 01, with its own numbers.
 fn whole_case() -> Vec<u8> {
     let mut bytes = Vec::new();
-    Record::Settings { width: 4, beats: 16 }.encode(1, &mut bytes);
-    write(24, 256).encode(2, &mut bytes);
-    write(32, 4088).encode(9, &mut bytes);
-    write(40, 16).encode(10, &mut bytes);
-    Record::Steps { steps: 5 }.encode(11, &mut bytes);
+    for (sequence, record) in [
+        (1, Record::Settings { width: 4, beats: 16 }),
+        (2, write(24, 256)),
+        (9, write(32, 4088)),
+        (10, write(40, 16)),
+        (11, Record::Steps { steps: 5 }),
+    ] {
+        encode(&record, sequence, &mut bytes);
+    }
     bytes
 }
 
@@ -103,7 +107,7 @@ fn cases() -> Vec<Vec<u8>> {
     ] {
         let mut bytes = Vec::new();
         for number in numbers {
-            Record::Read { offset: 4 }.encode(number, &mut bytes);
+            encode(&Record::Read { offset: 4 }, number, &mut bytes);
         }
         all.push(bytes);
     }
@@ -113,7 +117,7 @@ fn cases() -> Vec<Vec<u8>> {
     all.push(numbered(&[settings.clone(), settings.clone()]));
     for record in [settings, Record::Settings { width: 3, beats: 16 }] {
         let mut bytes = Vec::new();
-        record.encode(0, &mut bytes);
+        encode(&record, 0, &mut bytes);
         all.push(bytes);
     }
     // Sixteen windows and seventeen, in use and not.
@@ -169,7 +173,7 @@ fn cases() -> Vec<Vec<u8>> {
         Record::Read { offset: 3 },
     ] {
         let mut bytes = numbered(&vec![Record::Window { start: 9, length: 0 }; 16]);
-        record.encode(16, &mut bytes);
+        encode(&record, 16, &mut bytes);
         all.push(bytes);
     }
     all.extend((0..32).map(each_bit));

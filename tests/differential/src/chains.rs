@@ -2,9 +2,11 @@
 // restarts after the tail.
 
 use crate::copies::{copy, peek};
-use crate::maker::{descriptor, Maker, CHAIN, CONTROL, CURRENT, RESET, TAIL};
+use crate::maker::{Maker, MEMORY};
 use crate::pokes::{look, ready, run, window};
-use crate::shadow::{MEMORY, MOST_WINDOWS};
+use independent::memory::MOST_WINDOWS;
+use shared::record::descriptor;
+use shared::registers::{CDMACR, CHAIN, CURDESC, RESET, TAILDESC};
 
 /// What is wrong with a descriptor.
 #[derive(Clone, Copy, PartialEq, Eq)]
@@ -27,7 +29,7 @@ pub fn chain(maker: &mut Maker) {
     let places = places(maker, length);
     build(maker, &places);
     let low = maker.random.below(64);
-    maker.write(CURRENT, places[0] | low);
+    maker.write(CURDESC, places[0] | low);
     let each = places.len() / stretches as usize;
     for stretch in 1..=stretches as usize {
         let tail = if maker.random.chance(85) {
@@ -36,7 +38,7 @@ pub fn chain(maker: &mut Maker) {
             maker.random.pick(&places)
         };
         let low = maker.random.below(64);
-        maker.write(TAIL, tail | low);
+        maker.write(TAILDESC, tail | low);
         run_along(maker, &places);
         look(maker);
         if maker.ended || maker.busy() || maker.in_error() {
@@ -44,12 +46,12 @@ pub fn chain(maker: &mut Maker) {
         }
         if stretch < stretches as usize && maker.random.chance(25) {
             // Changing the mode clears no pointer: the restart goes on where the chain stood.
-            maker.write(CONTROL, 0);
+            maker.write(CDMACR, 0);
             if maker.random.chance(50) {
                 copy(maker);
             }
             if !maker.busy() && !maker.in_error() {
-                maker.write(CONTROL, CHAIN);
+                maker.write(CDMACR, CHAIN);
             }
         }
     }
@@ -195,7 +197,7 @@ fn sick_status(maker: &mut Maker) {
         window(maker);
         return;
     }
-    let status = maker.shadow.engine.current + 0x1c;
+    let status = maker.replay.engine.current + 0x1c;
     // Over one end of the word alone, so that the other bytes can still be seen: an update that
     // fails leaves them as they were.
     let (start, length) = maker.random.pick(&[
@@ -217,7 +219,7 @@ fn sick_status(maker: &mut Maker) {
 /// Now and then fifteen windows that matter to nothing, so that the sixteenth decides.
 pub fn fill_windows(maker: &mut Maker) {
     if maker.random.chance(20) {
-        while maker.shadow.windows.len() + 1 < MOST_WINDOWS && !maker.ended {
+        while maker.replay.windows().len() + 1 < MOST_WINDOWS && !maker.ended {
             let start = maker.random.below(2 * MEMORY);
             maker.window(start, 0);
         }
@@ -236,7 +238,7 @@ fn run_along(maker: &mut Maker, places: &[u32]) {
                 maker.steps(steps);
                 if maker.busy() {
                     let tail = maker.random.pick(places);
-                    maker.write(TAIL, tail);
+                    maker.write(TAILDESC, tail);
                 }
             }
         }
@@ -250,7 +252,7 @@ fn run_along(maker: &mut Maker, places: &[u32]) {
         35..=37 => {
             let steps = maker.random.between(0, 3) as u16;
             maker.steps(steps);
-            maker.write(CONTROL, RESET | CHAIN);
+            maker.write(CDMACR, RESET | CHAIN);
         }
         _ => {}
     }

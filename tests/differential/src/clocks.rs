@@ -1,19 +1,13 @@
 // Bus clocks: clean ones, ones that raise a wanted flag, held ones that change, and any others.
 
 use crate::maker::Maker;
-use crate::random::Random;
-use crate::record::Bus;
+use independent::record::Bus;
+use shared::clocks::{self, any_address, BAD_CACHE, FLAGS, GOOD_CACHE};
+use shared::random::Random;
 
-pub const FLAGS: [u32; 18] =
-    [37, 38, 39, 41, 42, 43, 44, 45, 46, 47, 48, 49, 50, 52, 53, 54, 55, 56];
-
-const OUT_OF_RESET: u8 = 1;
-const VALID: u8 = 2;
-const READY: u8 = 4;
-
-/// Cache values that do not raise 41, and those that do.
-const GOOD_CACHE: [u8; 10] = [0, 1, 2, 3, 6, 7, 10, 11, 14, 15];
-const BAD_CACHE: [u8; 6] = [4, 5, 8, 9, 12, 13];
+const OUT_OF_RESET: u8 = clocks::OUT_OF_RESET as u8;
+const VALID: u8 = clocks::VALID as u8;
+const READY: u8 = clocks::READY as u8;
 
 /// A few clocks.
 pub fn some(maker: &mut Maker) {
@@ -75,16 +69,6 @@ fn random_clock(maker: &mut Maker) -> Bus {
     }
 }
 
-/// Addresses at page edges, at the top, and others.
-fn any_address(random: &mut Random) -> u32 {
-    match random.below(4) {
-        0 => random.below(1 << 20) << 12,
-        1 => (random.below(1 << 20) << 12).wrapping_sub(random.between(1, 260)),
-        2 => u32::MAX - random.below(300),
-        _ => random.u32(),
-    }
-}
-
 fn any(maker: &mut Maker) {
     let bus = random_clock(maker);
     maker.bus(bus);
@@ -92,7 +76,7 @@ fn any(maker: &mut Maker) {
 
 /// The largest size that fits the width.
 fn widest(maker: &Maker) -> u32 {
-    maker.shadow.engine.width.trailing_zeros()
+    maker.replay.engine.width.trailing_zeros()
 }
 
 /// A clock out of reset with valid high that raises none of 37 to 44.
@@ -102,7 +86,7 @@ fn clean(maker: &mut Maker) -> Bus {
     let widest = widest(maker);
     let random = &mut maker.random;
     bus.size = random.below(widest + 1) as u8;
-    bus.cache = random.pick(&GOOD_CACHE);
+    bus.cache = random.pick(&GOOD_CACHE) as u8;
     bus.burst = random.below(3) as u8;
     match bus.burst {
         0 => bus.length = random.below(16) as u8,
@@ -151,7 +135,7 @@ fn raise(maker: &mut Maker, flag: u32) {
             bus.address |= 1 + random.below((1 << bus.size) - 1);
         }
         39 => bus.burst = 3,
-        41 => bus.cache = random.pick(&BAD_CACHE),
+        41 => bus.cache = random.pick(&BAD_CACHE) as u8,
         42 => {
             bus.burst = 0;
             bus.length = if random.chance(50) { 16 } else { random.between(16, 255) as u8 };
@@ -220,9 +204,9 @@ fn changed(maker: &mut Maker, mut bus: Bus, flag: u32) -> Bus {
 
 /// Goes on from the clock before: the same, or with one or more fields changed, valid or not.
 fn held(maker: &mut Maker) {
-    let before = maker.shadow.monitor.before;
+    let before = maker.replay.monitor.before;
     let bits = maker.random.pick(&[1, 3, 3, 3, 7, 7, 5, 0, 2]);
-    let mut bus = Bus::from_clock(bits, &before);
+    let mut bus = Bus { bits, ..Bus::from(&before) };
     if maker.random.chance(30) {
         bus.bits |= READY;
     }

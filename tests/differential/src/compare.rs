@@ -4,13 +4,14 @@ use std::fs::{self, File};
 use std::io::{self, Seek, Write};
 use std::path::{Path, PathBuf};
 use std::process::{Command, Output, Stdio};
-use std::sync::atomic::{AtomicBool, AtomicU64, Ordering};
-use std::sync::mpsc::{channel, RecvTimeoutError};
-use std::sync::Mutex;
+use std::sync::atomic::{AtomicU64, Ordering};
 use std::thread;
-use std::time::{Duration, Instant};
+use std::time::Instant;
 
-use crate::coverage::Coverage;
+use shared::coverage::Counts;
+use shared::crew::{self, Outcome};
+
+use crate::coverage;
 use crate::families;
 use crate::observe::observe;
 
@@ -20,8 +21,10 @@ pub struct Plan {
     pub fixed: u64,
     pub fresh: u64,
     pub seed: u64,
-    /// Report every ten seconds.
+    /// Report every so often.
     pub report: bool,
+    /// A zero in the coverage table is a failure too.
+    pub zeros_fail: bool,
 }
 
 impl Plan {
@@ -38,91 +41,65 @@ impl Plan {
     }
 }
 
-/// What a run gave.
-pub struct Outcome {
-    pub coverage: Coverage,
-    pub compared: u64,
-    pub difference: Option<String>,
-}
-
-/// Compares all traces of the plan on all processors, up to the first difference.
-pub fn run(replay: &Path, plan: Plan) -> Outcome {
+/// Compares all traces of the plan, up to the first difference.
+pub fn run(replay: &Path, plan: Plan) -> Outcome<Counts> {
+    let progress = Progress { compared: AtomicU64::new(0), started: Instant::now() };
     let total = plan.fixed.saturating_add(plan.fresh);
-    let next = AtomicU64::new(0);
-    let compared = AtomicU64::new(0);
-    let stop = AtomicBool::new(false);
-    let shared = Mutex::new((Coverage::new(), None));
-    let workers = thread::available_parallelism().map_or(2, |count| count.get());
-    let started = Instant::now();
-    thread::scope(|scope| {
-        let (done, all_done) = channel::<()>();
-        for _ in 0..workers {
-            let done = done.clone();
-            let (next, compared, stop, shared) = (&next, &compared, &stop, &shared);
-            scope.spawn(move || {
-                let _done = done;
-                let mut coverage = Coverage::new();
-                while !stop.load(Ordering::Relaxed) {
-                    let at = next.fetch_add(1, Ordering::Relaxed);
-                    if at >= total {
-                        break;
-                    }
-                    let difference = one(replay, plan.trace(at), at, &mut coverage);
-                    compared.fetch_add(1, Ordering::Relaxed);
-                    if let Some(difference) = difference {
-                        stop.store(true, Ordering::Relaxed);
-                        let mut shared = shared.lock().expect("no worker panics");
-                        shared.1.get_or_insert(difference);
-                    }
-                }
-                shared.lock().expect("no worker panics").0.add(&coverage);
-            });
-        }
-        drop(done);
+    crew::take_all(total, coverage::new, Counts::add, |at, coverage| {
+        one(replay, plan.trace(at), at, coverage)?;
         if plan.report {
-            // The workers send nothing: the channel closes when the last of them is done.
-            let pause = Duration::from_secs(10);
-            while let Err(RecvTimeoutError::Timeout) = all_done.recv_timeout(pause) {
-                report(&compared, started);
-            }
-            report(&compared, started);
+            progress.one();
         }
-    });
-    let (coverage, difference) = shared.into_inner().expect("no worker panics");
-    Outcome { coverage, compared: compared.into_inner(), difference }
+        Ok(())
+    })
 }
 
-fn report(compared: &AtomicU64, started: Instant) {
-    let compared = compared.load(Ordering::Relaxed);
-    let seconds = started.elapsed().as_secs_f64();
-    let rate = compared as f64 / seconds;
-    println!("{compared} traces in {seconds:.0} seconds, {rate:.0} traces a second");
+/// Traces between two reports.
+const REPORT: u64 = 20_000;
+
+struct Progress {
+    compared: AtomicU64,
+    started: Instant,
 }
 
-/// Compares one trace; gives what is to be said of a difference.
+impl Progress {
+    fn one(&self) {
+        let compared = 1 + self.compared.fetch_add(1, Ordering::Relaxed);
+        if compared.is_multiple_of(REPORT) {
+            let seconds = self.started.elapsed().as_secs_f64();
+            let rate = compared as f64 / seconds;
+            println!("{compared} traces in {seconds:.0} seconds, {rate:.0} traces a second");
+        }
+    }
+}
+
+/// Compares one trace; the error is what is to be said of a difference.
 fn one(
     replay: &Path,
     (seed, index, family, trace): (u64, u64, &'static str, Vec<u8>),
     at: u64,
-    coverage: &mut Coverage,
-) -> Option<String> {
+    coverage: &mut Counts,
+) -> Result<(), String> {
     let mut expected = Vec::new();
     independent::trace::replay(&trace, &mut expected);
-    coverage.family(family);
-    observe(&trace, &expected, coverage);
-    let what = match feed(replay, &trace, at) {
-        Err(error) => format!("cannot run {}: {error}", replay.display()),
-        Ok(output) if output.stdout != expected => first_difference(&output.stdout, &expected),
-        Ok(output) if !output.status.success() => {
-            format!("listings equal, but {}", output.status)
+    coverage.see(family);
+    let what = if observe(&trace, coverage) != expected {
+        "the independent program lists another way when it is observed".to_string()
+    } else {
+        match feed(replay, &trace, at) {
+            Err(error) => format!("cannot run {}: {error}", replay.display()),
+            Ok(output) if output.stdout != expected => first_difference(&output.stdout, &expected),
+            Ok(output) if !output.status.success() => {
+                format!("listings equal, but {}", output.status)
+            }
+            Ok(_) => return Ok(()),
         }
-        Ok(_) => return None,
     };
     let kept = match keep(seed, index, &trace) {
         Ok(name) => format!("trace written to {}", name.display()),
         Err(error) => format!("trace could not be written: {error}"),
     };
-    Some(format!("difference at seed {seed}, trace {index} ({family})\n{kept}\n{what}"))
+    Err(format!("difference at seed {seed}, trace {index} ({family})\n{kept}\n{what}"))
 }
 
 /// Runs the program on a trace. The ways to hand it over take turns: a file, a pipe, and a pipe

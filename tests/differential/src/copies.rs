@@ -1,11 +1,10 @@
 // Simple transfers, and a way to see memory: the listing never prints a byte of it, but the fault
 // of a descriptor prints its destination. So a word is copied there, and a wrong copy shows.
 
-use crate::maker::{
-    descriptor, Maker, CHAIN, CONTROL, COUNT, CURRENT, DESTINATION, RESET, SOURCE, TAIL,
-};
+use crate::maker::{Maker, MEMORY};
 use crate::pokes::{count_value, look, ready, run};
-use crate::shadow::MEMORY;
+use shared::record::descriptor;
+use shared::registers::{BTT, CDMACR, CHAIN, CURDESC, DA, RESET, SA, TAILDESC};
 
 /// One simple transfer, mostly sound.
 pub fn copy(maker: &mut Maker) {
@@ -20,12 +19,12 @@ pub fn copy(maker: &mut Maker) {
     }
     // SA and DA keep their values, so now and then one of them is left as it was.
     if maker.random.chance(93) {
-        maker.write(SOURCE, source);
+        maker.write(SA, source);
     }
     if maker.random.chance(93) {
-        maker.write(DESTINATION, destination);
+        maker.write(DA, destination);
     }
-    maker.write(COUNT, value);
+    maker.write(BTT, value);
     run(maker);
     look(maker);
     if maker.random.chance(35) {
@@ -87,20 +86,20 @@ pub fn peek(maker: &mut Maker, address: u32) {
     if !maker.sound(place, 32) || (address + 4 > place && address < place + 32) {
         return;
     }
-    if maker.busy() || maker.in_error() || maker.shadow.engine.sg_mode {
-        maker.write(CONTROL, RESET);
+    if maker.busy() || maker.in_error() || maker.replay.engine.sg_mode {
+        maker.write(CDMACR, RESET);
     }
     let fill = maker.random.u32();
     maker.memory(place, descriptor(0, u32::MAX, 0, 1, 0, fill));
-    maker.write(SOURCE, address);
-    maker.write(DESTINATION, place + 0x10);
-    maker.write(COUNT, 4);
+    maker.write(SA, address);
+    maker.write(DA, place + 0x10);
+    maker.write(BTT, 4);
     maker.steps(1);
-    maker.write(CONTROL, CHAIN);
-    maker.write(CURRENT, place);
-    maker.write(TAIL, place);
+    maker.write(CDMACR, CHAIN);
+    maker.write(CURDESC, place);
+    maker.write(TAILDESC, place);
     maker.steps(9);
-    maker.write(CONTROL, RESET);
+    maker.write(CDMACR, RESET);
 }
 
 /// One copy whose listing has hundreds or thousands of lines, if the settings are narrow.
@@ -110,9 +109,9 @@ pub fn long_copy(maker: &mut Maker) {
     let count = maker.random.between(5_000, 16_000);
     let source = maker.random.below(MEMORY - count);
     let destination = maker.random.below(MEMORY - count);
-    maker.write(SOURCE, source);
-    maker.write(DESTINATION, destination);
-    maker.write(COUNT, count);
+    maker.write(SA, source);
+    maker.write(DA, destination);
+    maker.write(BTT, count);
     maker.steps(65_535);
     look(maker);
     peek(maker, destination + count - 4);

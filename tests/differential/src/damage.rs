@@ -1,11 +1,12 @@
 // Traces that end in a refusal, and traces whose bytes were damaged.
 
 use crate::clocks;
-use crate::maker::Maker;
+use crate::maker::{Maker, Record, MEMORY};
 use crate::pokes::BAD_OFFSETS;
-use crate::random::Random;
-use crate::record::{records, Record};
-use crate::shadow::{MEMORY, MOST_WINDOWS};
+use independent::memory::MOST_WINDOWS;
+use independent::record::read;
+use shared::random::Random;
+use shared::record::encode;
 
 pub const UNKNOWN_MARKS: [&[u8; 2]; 10] =
     [b"mm", b"Mm", b"FC", b"XX", b"\0\0", b"CR", b"AW", b"RA", b"S\n", b"\xff\xff"];
@@ -42,18 +43,18 @@ pub fn bad_end(maker: &mut Maker) {
     match maker.random.below(100) {
         0..=7 => {
             let late = Record::Settings { width: 4, beats: 16 };
-            late.encode(sequence, &mut bytes);
+            encode(&late, sequence, &mut bytes);
         }
         8..=15 => {
             let mark = maker.random.pick(&UNKNOWN_MARKS);
             let sound = Record::Steps { steps: 3 };
-            sound.encode(sequence, &mut bytes);
+            encode(&sound, sequence, &mut bytes);
             bytes[..2].copy_from_slice(mark);
         }
         16..=27 => {
             let length = maker.random.pick(&[0u16, 0, 1025, 1025, 1026, 2048, 65_535]);
             let whole = Record::Memory { address: 64, bytes: vec![7; usize::from(length)] };
-            whole.encode(sequence, &mut bytes);
+            encode(&whole, sequence, &mut bytes);
         }
         28..=44 => {
             let length = maker.random.pick(&[1, 2, 64, 1024]);
@@ -64,28 +65,28 @@ pub fn bad_end(maker: &mut Maker) {
                 _ => maker.random.between(MEMORY, u32::MAX),
             };
             let bytes_past = maker.random.bytes(length);
-            Record::Memory { address, bytes: bytes_past }.encode(sequence, &mut bytes);
+            encode(&Record::Memory { address, bytes: bytes_past }, sequence, &mut bytes);
         }
         45..=59 => {
-            while maker.shadow.windows.len() < MOST_WINDOWS && !maker.ended {
+            while maker.replay.windows().len() < MOST_WINDOWS && !maker.ended {
                 let start = maker.random.between(MEMORY - 4096, MEMORY + 4096);
                 maker.window(start, 0);
             }
             let sequence = if sequence == old { old } else { maker.sequence.saturating_add(1) };
-            Record::Window { start: 1, length: 1 }.encode(sequence, &mut bytes);
+            encode(&Record::Window { start: 1, length: 1 }, sequence, &mut bytes);
         }
         60..=79 => {
             let bus = clocks::out_of_range(maker);
-            Record::Bus(bus).encode(sequence, &mut bytes);
+            encode(&Record::Bus(bus), sequence, &mut bytes);
         }
         80..=93 => {
-            let offset = maker.random.pick(&[0, 4, 0x18, 0x28, BAD_OFFSETS[0]]);
+            let offset = maker.random.pick(&[0, 4, 0x18, 0x28, BAD_OFFSETS[0] as u16]);
             let record = match maker.random.below(3) {
                 0 => Record::Write { offset, value: 5 },
                 1 => Record::Read { offset },
                 _ => Record::Steps { steps: 2 },
             };
-            record.encode(old, &mut bytes);
+            encode(&record, old, &mut bytes);
         }
         _ => {
             // One more number fits after this, and then none.
@@ -93,14 +94,25 @@ pub fn bad_end(maker: &mut Maker) {
             maker.dense = true;
             maker.read(4);
             maker.steps(1);
-            Record::Read { offset: 4 }.encode(u32::MAX, &mut bytes);
+            encode(&Record::Read { offset: 4 }, u32::MAX, &mut bytes);
         }
     }
     maker.bytes.extend_from_slice(&bytes);
     for (record, gap) in [(Record::Read { offset: 4 }, 7), (Record::Steps { steps: 9 }, 8)] {
-        record.encode(maker.sequence.saturating_add(gap), &mut maker.bytes);
+        encode(&record, maker.sequence.saturating_add(gap), &mut maker.bytes);
     }
     maker.ended = true;
+}
+
+/// Places and numbers of the records at the front of a trace, as far as they can be read.
+fn records(trace: &[u8]) -> Vec<(usize, u32)> {
+    let mut all = Vec::new();
+    let mut rest = trace;
+    while let Ok((sequence, _, behind)) = read(rest, all.is_empty()) {
+        all.push((trace.len() - rest.len(), sequence));
+        rest = behind;
+    }
+    all
 }
 
 /// A short sound trace changed in one way.
@@ -112,7 +124,7 @@ pub fn damage(random: &mut Random, bytes: &mut Vec<u8>) {
     }
     let at = random.below(size) as usize;
     let record = random.below(all.len() as u32) as usize;
-    let (place, sequence, _) = all[record];
+    let (place, sequence) = all[record];
     let previous = if record == 0 { 0 } else { all[record - 1].1 };
     match random.below(11) {
         0 => bytes.truncate(at),
@@ -134,7 +146,7 @@ pub fn damage(random: &mut Random, bytes: &mut Vec<u8>) {
         }
         7 => {
             let mut late = Vec::new();
-            Record::Settings { width: 8, beats: 4 }.encode(sequence, &mut late);
+            encode(&Record::Settings { width: 8, beats: 4 }, sequence, &mut late);
             bytes.splice(place..place, late);
         }
         8 => {

@@ -3,8 +3,9 @@
 use std::sync::OnceLock;
 
 use crate::maker::Maker;
-use crate::random::Random;
 use crate::{catalogue, chains, clocks, copies, damage, pokes};
+use shared::clocks::FLAGS;
+use shared::random::Random;
 
 /// The seed of the fixed traces.
 pub const FIXED: u64 = 1;
@@ -78,7 +79,7 @@ fn trace(family: &str, random: Random) -> Vec<u8> {
         "clocks" => {
             for _ in 0..maker.random.between(2, 8) {
                 if maker.random.chance(60) {
-                    let flag = maker.random.pick(&clocks::FLAGS);
+                    let flag = maker.random.pick(&FLAGS);
                     clocks::alone(&mut maker, flag);
                 } else {
                     clocks::some(&mut maker);
@@ -128,7 +129,8 @@ pub fn play(maker: &mut Maker) {
 #[cfg(test)]
 mod tests {
     use super::*;
-    use crate::record::records;
+    use independent::record::read;
+    use shared::record::encode;
 
     #[test]
     fn a_seed_and_an_index_give_the_same_trace_again() {
@@ -145,11 +147,12 @@ mod tests {
         for index in 0..500 {
             let (_, bytes) = generated(77, index);
             let mut again = Vec::new();
-            for (place, sequence, record) in records(&bytes) {
-                assert_eq!(place, again.len());
-                record.encode(sequence, &mut again);
+            let mut rest = &bytes[..];
+            while let Ok((sequence, record, behind)) = read(rest, again.is_empty()) {
+                encode(&record, sequence, &mut again);
+                rest = behind;
             }
-            assert_eq!(again, bytes[..again.len()]);
+            assert_eq!(again, bytes[..bytes.len() - rest.len()]);
         }
     }
 }

@@ -13,16 +13,15 @@ mod maker;
 mod observe;
 mod observe_steps;
 mod pokes;
-mod random;
-mod record;
-mod shadow;
 mod situations;
-mod table;
 
 use std::io::Write;
-use std::path::PathBuf;
+use std::path::{Path, PathBuf};
 use std::process::ExitCode;
-use std::time::{SystemTime, UNIX_EPOCH};
+
+use shared::coverage::Counts;
+use shared::crew::Outcome;
+use shared::random::fresh_seed;
 
 const USAGE: &str = "usage:
   differential compare --replay PATH --traces N --fresh M [--seed S]
@@ -33,6 +32,8 @@ const USAGE: &str = "usage:
       writes a trace of N records; KIND is mixed, bus, copies or chains
   differential trace --seed S --index I
       writes one generated trace again
+  differential write DIR --traces N
+      writes the first N fixed traces to the folder DIR, a file each: 0.trace, 1.trace and so on
 exit status 0: no difference (compare: and no zero in the coverage table); 1: otherwise; 2: usage";
 
 /// The value after the option `name`.
@@ -54,70 +55,87 @@ fn number(arguments: &[String], name: &str) -> Result<Option<u64>, String> {
     }
 }
 
-fn replay(arguments: &[String]) -> Result<PathBuf, String> {
-    option(arguments, "--replay").map(PathBuf::from).ok_or("--replay PATH is missing".to_string())
+/// A number that has to be there.
+fn needed(arguments: &[String], name: &str) -> Result<u64, String> {
+    number(arguments, name)?.ok_or_else(|| format!("{name} is missing"))
 }
 
-fn clock_seed() -> u64 {
-    SystemTime::now().duration_since(UNIX_EPOCH).map_or(0, |time| time.as_nanos() as u64)
+/// Compares the traces of a plan, whose fresh ones come from `--seed` or from a new seed, and
+/// prints what came out; the last line is the count.
+fn compare(arguments: &[String], mut plan: compare::Plan) -> Result<ExitCode, String> {
+    let replay = option(arguments, "--replay").ok_or("--replay PATH is missing")?;
+    plan.seed = number(arguments, "--seed")?.unwrap_or_else(fresh_seed);
+    println!("fresh traces with --seed {}", plan.seed);
+    let Outcome { counts, taken, difference } = compare::run(Path::new(&replay), plan);
+    Ok(match difference {
+        Some(difference) => {
+            println!("{difference}\ncompared {taken} traces, 1 different");
+            ExitCode::FAILURE
+        }
+        None => conclude(&counts, taken, plan.zeros_fail),
+    })
 }
 
-/// Prints what a run gave; its last line is the count.
-fn conclude(outcome: compare::Outcome, zeros_fail: bool) -> ExitCode {
-    if let Some(difference) = outcome.difference {
-        println!("{difference}");
-        println!("compared {} traces, 1 different", outcome.compared);
-        return ExitCode::FAILURE;
-    }
-    let zeros = outcome.coverage.print();
+fn conclude(counts: &Counts, taken: u64, zeros_fail: bool) -> ExitCode {
+    let zeros = coverage::print(counts);
     if zeros > 0 {
         println!("{zeros} places of the coverage table are zero");
     }
-    println!("compared {} traces, 0 different", outcome.compared);
+    println!("compared {taken} traces, 0 different");
     ExitCode::from(u8::from(zeros_fail && zeros > 0))
+}
+
+/// Writes a trace to standard output.
+fn print_trace(bytes: &[u8]) -> Result<ExitCode, String> {
+    std::io::stdout().write_all(bytes).map_err(|error| error.to_string())?;
+    Ok(ExitCode::SUCCESS)
+}
+
+fn write_traces(folder: PathBuf, count: u64) -> std::io::Result<ExitCode> {
+    std::fs::create_dir_all(&folder)?;
+    for index in 0..count {
+        let (_, bytes) = families::fixed(index);
+        std::fs::write(folder.join(format!("{index}.trace")), bytes)?;
+    }
+    Ok(ExitCode::SUCCESS)
 }
 
 fn command(arguments: &[String]) -> Result<ExitCode, String> {
     match arguments.first().map(String::as_str) {
         Some("compare") => {
-            let seed = number(arguments, "--seed")?.unwrap_or_else(clock_seed);
-            let plan = compare::Plan {
-                fixed: number(arguments, "--traces")?.ok_or("--traces N is missing")?,
-                fresh: number(arguments, "--fresh")?.ok_or("--fresh M is missing")?,
-                seed,
-                report: false,
-            };
-            let replay = replay(arguments)?;
-            println!("fresh traces with --seed {seed}");
-            Ok(conclude(compare::run(&replay, plan), true))
+            let fixed = needed(arguments, "--traces")?;
+            let fresh = needed(arguments, "--fresh")?;
+            compare(
+                arguments,
+                compare::Plan { fixed, fresh, seed: 0, report: false, zeros_fail: true },
+            )
         }
         Some("soak") => {
-            let seed = number(arguments, "--seed")?.unwrap_or_else(clock_seed);
             let fresh = number(arguments, "--traces")?.unwrap_or(u64::MAX);
-            let replay = replay(arguments)?;
-            println!("fresh traces with --seed {seed}");
-            let plan = compare::Plan { fixed: 0, fresh, seed, report: true };
-            Ok(conclude(compare::run(&replay, plan), false))
+            compare(
+                arguments,
+                compare::Plan { fixed: 0, fresh, seed: 0, report: true, zeros_fail: false },
+            )
         }
         Some("make") => {
             let kind = arguments.get(1).filter(|kind| bench::KINDS.contains(&kind.as_str()));
             let kind = kind.ok_or("KIND is mixed, bus, copies or chains")?;
-            let records = number(arguments, "--records")?.ok_or("--records N is missing")?;
-            let bytes = bench::make(kind, records as usize);
-            std::io::stdout().write_all(&bytes).map_err(|error| error.to_string())?;
-            Ok(ExitCode::SUCCESS)
+            print_trace(&bench::make(kind, needed(arguments, "--records")? as usize))
         }
         Some("trace") => {
-            let seed = number(arguments, "--seed")?.ok_or("--seed S is missing")?;
-            let index = number(arguments, "--index")?.ok_or("--index I is missing")?;
-            let (_, bytes) = match seed {
-                families::FIXED => families::fixed(index),
-                _ => families::generated(seed, index),
-            };
-            std::io::stdout().write_all(&bytes).map_err(|error| error.to_string())?;
-            Ok(ExitCode::SUCCESS)
+            let (seed, index) = (needed(arguments, "--seed")?, needed(arguments, "--index")?);
+            print_trace(&match seed {
+                families::FIXED => families::fixed(index).1,
+                _ => families::generated(seed, index).1,
+            })
         }
-        _ => Err("compare, soak, make or trace is missing".to_string()),
+        Some("write") => {
+            let folder = arguments.get(1).filter(|folder| !folder.starts_with("--"));
+            let folder = PathBuf::from(folder.ok_or("DIR is missing")?);
+            let count = needed(arguments, "--traces")?;
+            write_traces(folder, count).map_err(|error| error.to_string())
+        }
+        _ => Err("compare, soak, make, trace or write is missing".to_string()),
     }
 }
 

@@ -1,29 +1,25 @@
-// A trace in the making. Each record is also carried out on a shadow, so that the next one can be
-// chosen with knowledge of the state.
+// A trace in the making. Each record is also carried out, so the next one can be chosen with
+// knowledge of the state.
 
-use independent::engine::Phase;
+use independent::engine::{Phase, Transfer};
+use independent::listing::Listing;
+use independent::memory::MOST_WINDOWS;
+use independent::record::{self, Bus};
+use independent::trace::{self, Replay};
+use shared::random::Random;
+use shared::record::encode;
+use shared::settings;
+use std::io::{sink, Sink};
 
-use crate::random::Random;
-use crate::record::{Bus, Record};
-use crate::shadow::{idle, Shadow, MEMORY, MOST_WINDOWS};
+pub type Record = record::Record<Vec<u8>>;
 
-pub const WIDTHS: [u16; 6] = [4, 8, 16, 32, 64, 128];
-pub const BEATS: [u16; 8] = [2, 4, 8, 16, 32, 64, 128, 256];
-
-pub const CONTROL: u16 = 0x00;
-pub const STATUS: u16 = 0x04;
-pub const CURRENT: u16 = 0x08;
-pub const TAIL: u16 = 0x10;
-pub const SOURCE: u16 = 0x18;
-pub const DESTINATION: u16 = 0x20;
-pub const COUNT: u16 = 0x28;
-
-pub const RESET: u32 = 1 << 2;
-pub const CHAIN: u32 = 1 << 3;
+/// Bytes of the program's memory.
+pub const MEMORY: u32 = trace::MEMORY as u32;
 
 pub struct Maker {
     pub random: Random,
-    pub shadow: Shadow,
+    pub replay: Replay,
+    listing: Listing<Sink>,
     pub bytes: Vec<u8>,
     pub sequence: u32,
     pub records: usize,
@@ -41,7 +37,8 @@ impl Maker {
     pub fn new(random: Random) -> Maker {
         Maker {
             random,
-            shadow: Shadow::fresh(),
+            replay: Replay::fresh(),
+            listing: Listing::new(sink()),
             bytes: Vec::new(),
             sequence: 0,
             records: 0,
@@ -62,20 +59,20 @@ impl Maker {
             self.ended = true;
             return;
         };
-        record.encode(sequence, &mut self.bytes);
+        encode(&record, sequence, &mut self.bytes);
         self.sequence = sequence;
         self.records += 1;
-        self.ended = self.shadow.apply(&record, &mut |_| ()) != 0;
+        self.ended = self.replay.carry_out(&record, &mut self.listing, &mut ()) != 0;
     }
 
-    pub fn settings(&mut self, width: u16, beats: u16) {
-        self.put(Record::Settings { width, beats });
+    pub fn settings(&mut self, width: u32, beats: u32) {
+        self.put(Record::Settings { width: width as u16, beats: beats as u16 });
     }
 
     /// A CF with one of the 48 settings, or none.
     pub fn any_settings(&mut self) {
         if self.random.chance(85) {
-            let (width, beats) = (self.random.pick(&WIDTHS), self.random.pick(&BEATS));
+            let (width, beats) = settings::listed(&mut self.random);
             self.settings(width, beats);
         }
     }
@@ -86,17 +83,17 @@ impl Maker {
 
     /// A window, as long as there is room for one: the seventeenth ends the replay.
     pub fn window(&mut self, start: u32, length: u32) {
-        if self.shadow.windows.len() < MOST_WINDOWS {
+        if self.replay.windows().len() < MOST_WINDOWS {
             self.put(Record::Window { start, length });
         }
     }
 
-    pub fn write(&mut self, offset: u16, value: u32) {
-        self.put(Record::Write { offset, value });
+    pub fn write(&mut self, offset: u32, value: u32) {
+        self.put(Record::Write { offset: offset as u16, value });
     }
 
-    pub fn read(&mut self, offset: u16) {
-        self.put(Record::Read { offset });
+    pub fn read(&mut self, offset: u32) {
+        self.put(Record::Read { offset: offset as u16 });
     }
 
     pub fn steps(&mut self, steps: u16) {
@@ -108,16 +105,16 @@ impl Maker {
     }
 
     pub fn busy(&self) -> bool {
-        !idle(&self.shadow.engine)
+        !self.replay.engine.idle()
     }
 
     pub fn in_error(&self) -> bool {
-        crate::shadow::in_error(&self.shadow.engine)
+        self.replay.engine.in_error()
     }
 
     /// Bytes of a full burst.
     pub fn unit(&self) -> u32 {
-        (self.shadow.engine.width * self.shadow.engine.beats).min(4096)
+        (self.replay.engine.width * self.replay.engine.beats).min(4096)
     }
 
     pub fn around(&mut self, centre: u32, reach: u32) -> u32 {
@@ -129,7 +126,7 @@ impl Maker {
     pub fn sound(&self, start: u32, count: u32) -> bool {
         let (from, to) = (u64::from(start), u64::from(start) + u64::from(count));
         to <= u64::from(MEMORY)
-            && self.shadow.windows.iter().all(|&(sick, size)| {
+            && self.replay.windows().iter().all(|&(sick, size)| {
                 let sick = u64::from(sick);
                 to <= sick || sick + u64::from(size) <= from
             })
@@ -145,18 +142,18 @@ impl Maker {
                 self.around(page, unit.min(300))
             }
             60..=69 => {
-                let word = self.random.below(MEMORY) & !(self.shadow.engine.width - 1);
+                let word = self.random.below(MEMORY) & !(self.replay.engine.width - 1);
                 self.around(word, 2)
             }
             70..=79 => self.around(MEMORY, 80),
             80..=84 => u32::MAX - self.random.below(200),
-            85..=92 if !self.shadow.windows.is_empty() => {
-                let (start, length) = self.random.pick(&self.shadow.windows);
+            85..=92 if !self.replay.windows().is_empty() => {
+                let (start, length) = self.random.pick(self.replay.windows());
                 let edge = if self.random.chance(50) { start } else { start.wrapping_add(length) };
                 self.around(edge, 40)
             }
             93..=96 => {
-                let descriptor = self.shadow.engine.current;
+                let descriptor = self.replay.engine.current;
                 self.around(descriptor, 40)
             }
             _ => self.random.u32(),
@@ -165,7 +162,7 @@ impl Maker {
 
     /// A count of a transfer, measured in bursts so that listings stay small.
     pub fn count(&mut self) -> u32 {
-        let (unit, width) = (self.unit(), self.shadow.engine.width);
+        let (unit, width) = (self.unit(), self.replay.engine.width);
         match self.random.below(100) {
             0..=24 => self.random.between(1, width),
             25..=44 => self.around(unit, 3),
@@ -207,27 +204,14 @@ impl Maker {
 
     /// About how many steps the engine still has before it: a guess, which keeps listings small.
     pub fn steps_ahead(&self) -> u32 {
-        match self.shadow.engine.phase {
+        match self.replay.engine.phase {
             Phase::Idle => 0,
             Phase::Fetch => 10,
             Phase::Update(_) => 1,
-            Phase::Move { destination, total, moved, .. } => {
+            Phase::Move(Transfer { destination, total, moved, .. }) => {
                 let to = destination + moved;
                 (total - moved).min(MEMORY.saturating_sub(to)) / self.unit() + 2
             }
         }
     }
-}
-
-/// The 32 bytes of a descriptor, its unused words filled with `fill`.
-pub fn descriptor(
-    next: u32,
-    source: u32,
-    destination: u32,
-    control: u32,
-    status: u32,
-    fill: u32,
-) -> Vec<u8> {
-    let words = [next, fill, source, fill, destination, fill, control, status];
-    words.iter().flat_map(|word| word.to_le_bytes()).collect()
 }

@@ -1,37 +1,110 @@
-// Counts what one trace did: the words, answers and bits from the independent listing, all that a
-// listing does not show from a shadow taken along the same records.
+// Counts what one trace did: the words, answers and bits from the independent listing, and all that
+// a listing does not show by looking on as the independent program replays the trace.
 
-use independent::answer::settings_listed;
-use independent::engine::{Engine, Phase};
+use independent::answer::{self, settings_listed};
+use independent::engine::{Engine, Event, Phase, Transfer};
+use independent::memory::MOST_WINDOWS;
 use independent::monitor::Clock;
+use independent::record::{read, Bus, Cause, Record};
+use independent::trace::{replay_before, Observer, Replay};
+use shared::coverage::Counts;
+use shared::registers::none_at;
+use shared::settings::{BEATS, WIDTHS};
 
-use crate::coverage::{Coverage, WORDS};
-use crate::maker::{BEATS, WIDTHS};
-use crate::observe_steps::{one_step, Memo};
-use crate::record::{decode, Bus, Cause, Record};
-use crate::shadow::{idle, in_error, state, Shadow, MEMORY, MOST_WINDOWS};
+use crate::coverage::WORDS;
+use crate::maker::MEMORY;
+use crate::observe_steps::{one_step, Memo, Step};
 
 const TOP: u64 = 1 << 32;
 
-pub fn observe(trace: &[u8], listing: &[u8], coverage: &mut Coverage) {
-    let printed = count_lines(listing, coverage);
-    let seen = follow(trace, coverage);
-    // The shadow went another way than the replay: then its counts mean nothing.
-    assert_eq!(printed, seen, "the coverage shadow lost the replay");
+/// Replays a trace, counts what it did and gives its listing.
+pub fn observe(trace: &[u8], coverage: &mut Counts) -> Vec<u8> {
+    coverage.see_if(trace.is_empty(), "empty trace");
+    coverage.see_if(!trace.is_empty() && !trace.starts_with(b"CF"), "trace without CF");
+    let mut listing = Vec::new();
+    replay_before(trace, &mut listing, &mut Watcher::new(coverage));
+    count_lines(&listing, coverage);
+    listing
 }
 
-/// Counts the listing's lines and gives their number.
-fn count_lines(listing: &[u8], coverage: &mut Coverage) -> usize {
+/// Looks on at a replay, and remembers what was before a record or a step.
+struct Watcher<'a> {
+    coverage: &'a mut Counts,
+    memo: Memo,
+    engine: Engine,
+    flags: u64,
+    held: Clock,
+    steps: usize,
+}
+
+impl Watcher<'_> {
+    fn new(coverage: &mut Counts) -> Watcher<'_> {
+        let Replay { engine, monitor, .. } = Replay::fresh();
+        let (flags, held) = (monitor.flags, monitor.before);
+        Watcher { coverage, memo: Memo::new(), engine, flags, held, steps: 0 }
+    }
+}
+
+impl Observer for Watcher<'_> {
+    fn record(&mut self, replay: &Replay, record: &Record<&[u8]>) {
+        before(replay, record, &mut self.memo, self.coverage);
+        self.flags = replay.monitor.flags;
+        self.held = replay.monitor.before;
+        self.steps = 0;
+    }
+
+    fn carried_out(&mut self, replay: &Replay, record: &Record<&[u8]>) {
+        match record {
+            Record::Steps { steps } => {
+                run(&replay.engine, self.steps, usize::from(*steps), self.coverage);
+            }
+            Record::Bus(bus) => {
+                clock(bus, &self.held, self.flags, replay.monitor.flags, self.coverage);
+            }
+            _ => {}
+        }
+        self.coverage.see_if(replay.last == u32::MAX, "number 4294967295");
+    }
+
+    fn refused(&mut self, replay: &Replay, trace: &[u8], answer: u32) {
+        match read(trace, replay.place == 0) {
+            Err(cause) => unreadable(trace, replay.last, cause, self.coverage),
+            Ok((sequence, record, rest)) => {
+                if answer == answer::SEQUENCE {
+                    old_number(replay, &record, sequence, self.coverage);
+                }
+                self.coverage.see_if(!rest.is_empty(), "records after a bad one");
+            }
+        }
+    }
+
+    fn step(&mut self, replay: &Replay) {
+        self.engine.clone_from(&replay.engine);
+    }
+
+    fn stepped(&mut self, replay: &Replay, event: Event) {
+        self.steps += 1;
+        let step = Step {
+            before: &self.engine,
+            windows: replay.windows(),
+            event,
+            after: &replay.engine,
+            memory: &replay.memory,
+        };
+        one_step(&step, &mut self.memo, self.coverage);
+    }
+}
+
+/// Counts the listing's lines.
+fn count_lines(listing: &[u8], coverage: &mut Counts) {
     let text = String::from_utf8_lossy(listing);
-    let mut lines = 0;
     for line in text.lines().skip(1) {
-        lines += 1;
         let mut parts = line.split(' ').skip(1);
         let word = parts.next().unwrap_or("");
         let mut number = || parts.next().and_then(|part| part.parse().ok()).unwrap_or(0u32);
         let (first, second) = (number(), number());
-        if let Some(at) = WORDS.iter().position(|known| *known == word) {
-            coverage.words[at] += 1;
+        if let Some(known) = WORDS.iter().find(|known| **known == word) {
+            coverage.see(known);
         }
         match word {
             "write" | "noread" => coverage.number("answer", second),
@@ -50,62 +123,10 @@ fn count_lines(listing: &[u8], coverage: &mut Coverage) -> usize {
             _ => {}
         }
     }
-    lines
-}
-
-/// Follows the trace on a shadow and gives the number of lines it prints.
-fn follow(trace: &[u8], coverage: &mut Coverage) -> usize {
-    let mut shadow = Shadow::fresh();
-    let mut memo = Memo::new();
-    coverage.see_if(trace.is_empty(), "empty trace");
-    coverage.see_if(!trace.is_empty() && !trace.starts_with(b"CF"), "trace without CF");
-    let (mut place, mut last, mut lines) = (0, 0, 0);
-    while place < trace.len() {
-        let (sequence, record, next) = match decode(trace, place) {
-            Ok(read) => read,
-            Err(cause) => {
-                unreadable(&trace[place..], last, cause, coverage);
-                return lines + 1;
-            }
-        };
-        if sequence <= last {
-            old_number(&shadow, &record, sequence, last, coverage);
-            coverage.see_if(next < trace.len(), "records after a bad one");
-            return lines + 1;
-        }
-        before(&shadow, &record, &mut memo, coverage);
-        let flags = shadow.monitor.flags;
-        let held = shadow.monitor.before;
-        let mut steps = 0;
-        let answer = shadow.apply(&record, &mut |step| {
-            steps += 1;
-            one_step(&step, &mut memo, coverage);
-        });
-        lines += 1 + steps;
-        match &record {
-            Record::Steps { steps: most } => run(&shadow, steps, usize::from(*most), coverage),
-            Record::Bus(bus) if answer == 0 => {
-                let now = shadow.monitor.flags;
-                for flag in (0..64).filter(|flag| now & !flags & 1 << flag != 0) {
-                    coverage.number("flag raised", flag);
-                }
-                clock(bus, &held, flags, now, coverage);
-            }
-            _ => {}
-        }
-        if answer != 0 {
-            coverage.see_if(next < trace.len(), "records after a bad one");
-            return lines;
-        }
-        coverage.see_if(sequence == u32::MAX, "number 4294967295");
-        last = sequence;
-        place = next;
-    }
-    lines
 }
 
 /// A record that gets answer 10.
-fn unreadable(rest: &[u8], last: u32, cause: Cause, coverage: &mut Coverage) {
+fn unreadable(rest: &[u8], last: u32, cause: Cause, coverage: &mut Counts) {
     coverage.see(match cause {
         Cause::CutInHead => "cut in a head",
         Cause::CutInBody => "cut in a body",
@@ -122,23 +143,20 @@ fn unreadable(rest: &[u8], last: u32, cause: Cause, coverage: &mut Coverage) {
 }
 
 /// A record that gets answer 11.
-fn old_number(shadow: &Shadow, record: &Record, sequence: u32, last: u32, coverage: &mut Coverage) {
+fn old_number(replay: &Replay, record: &Record<&[u8]>, sequence: u32, coverage: &mut Counts) {
+    let last = replay.last;
     coverage.see_if(sequence == 0, "number of zero");
     coverage.see_if(sequence == last && last != 0, "number repeated");
     coverage.see_if(sequence < last, "number falling");
     let own = match record {
         Record::Settings { width, beats } => !settings_listed(u32::from(*width), u32::from(*beats)),
         Record::Memory { address, bytes } => past_end(*address, bytes) > 0,
-        Record::Window { .. } => shadow.windows.len() == MOST_WINDOWS,
-        Record::Write { offset, .. } | Record::Read { offset } => no_register(*offset),
+        Record::Window { .. } => replay.windows().len() == MOST_WINDOWS,
+        Record::Write { offset, .. } | Record::Read { offset } => none_at(u32::from(*offset)),
         Record::Steps { .. } => false,
         Record::Bus(bus) => !fields_out(bus).is_empty(),
     };
     coverage.see_if(own, "old number beside the record's own answer");
-}
-
-fn no_register(offset: u16) -> bool {
-    !offset.is_multiple_of(4) || offset > 40
 }
 
 /// How many of the bytes lie past the memory's end, by the place of the last.
@@ -160,13 +178,13 @@ fn fields_out(bus: &Bus) -> Vec<&'static str> {
 }
 
 /// A record with a good number, before it is carried out.
-fn before(shadow: &Shadow, record: &Record, memo: &mut Memo, coverage: &mut Coverage) {
-    let engine = &shadow.engine;
-    let busy = !idle(engine);
+fn before(replay: &Replay, record: &Record<&[u8]>, memo: &mut Memo, coverage: &mut Counts) {
+    let engine = &replay.engine;
+    let busy = !engine.idle();
     match record {
         Record::Settings { width, beats } => {
-            coverage.see_if(!WIDTHS.contains(width), "CF of bad width");
-            coverage.see_if(!BEATS.contains(beats), "CF of bad beats");
+            coverage.see_if(!WIDTHS.contains(&u32::from(*width)), "CF of bad width");
+            coverage.see_if(!BEATS.contains(&u32::from(*beats)), "CF of bad beats");
         }
         Record::Memory { address, bytes } => {
             let past = past_end(*address, bytes);
@@ -178,7 +196,7 @@ fn before(shadow: &Shadow, record: &Record, memo: &mut Memo, coverage: &mut Cove
             if past == 0 {
                 memo.copied[*address as usize..end].fill(false);
                 coverage.see_if(busy, "memory put in the midst of a transfer");
-                let fetched = matches!(engine.phase, Phase::Move { .. } | Phase::Update(_));
+                let fetched = matches!(engine.phase, Phase::Move(_) | Phase::Update(_));
                 let current = engine.current as usize;
                 let over = end > current && (*address as usize) < current + 32;
                 let over = fetched && engine.sg_mode && over;
@@ -190,16 +208,14 @@ fn before(shadow: &Shadow, record: &Record, memo: &mut Memo, coverage: &mut Cove
             let over = u64::from(*start) < u64::from(MEMORY) && end > u64::from(MEMORY);
             coverage.see_if(over, "window past the memory's end");
             coverage.see_if(busy, "window added in the midst of a transfer");
-            coverage.see_if(shadow.windows.len() + 1 == MOST_WINDOWS, "sixteen windows");
+            coverage.see_if(replay.windows().len() + 1 == MOST_WINDOWS, "sixteen windows");
         }
         Record::Write { offset, value } => {
-            let row = if no_register(*offset) { 11 } else { usize::from(*offset) / 4 };
-            coverage.writes[row][state(engine) as usize] += 1;
+            coverage.write(u32::from(*offset), engine);
             register_write(engine, *offset, *value, memo, coverage);
         }
         Record::Read { offset } => {
-            let row = if no_register(*offset) { 11 } else { usize::from(*offset) / 4 };
-            coverage.reads[row][state(engine) as usize] += 1;
+            coverage.read(u32::from(*offset), engine);
         }
         Record::Steps { .. } => {}
         Record::Bus(bus) => {
@@ -218,9 +234,9 @@ fn register_write(
     offset: u16,
     value: u32,
     memo: &mut Memo,
-    coverage: &mut Coverage,
+    coverage: &mut Counts,
 ) {
-    let busy = !idle(engine);
+    let busy = !engine.idle();
     let mut after = engine.clone();
     let answer = after.write(u32::from(offset), value);
     match offset {
@@ -239,7 +255,7 @@ fn register_write(
             coverage.see_if(engine.ioc_irq && !after.ioc_irq, "IOC_Irq cleared");
             let cleared = engine.err_irq && !after.err_irq;
             coverage.see_if(cleared, "Err_Irq cleared");
-            let left = cleared && in_error(&after);
+            let left = cleared && after.in_error();
             coverage.see_if(left, "Err_Irq cleared with the error bit left");
         }
         0x08 if answer == 0 => memo.at_tail = false,
@@ -267,21 +283,21 @@ fn register_write(
     }
 }
 
-fn reset(engine: &Engine, coverage: &mut Coverage) {
+fn reset(engine: &Engine, coverage: &mut Counts) {
     coverage.see(match (engine.phase, engine.sg_mode) {
-        (Phase::Idle, _) if in_error(engine) => "reset in error",
+        (Phase::Idle, _) if engine.in_error() => "reset in error",
         (Phase::Idle, _) => "reset when idle",
         (Phase::Fetch, _) => "reset before a fetch",
         (Phase::Update(_), _) => "reset before an update",
-        (Phase::Move { .. }, false) => "reset in a simple transfer",
-        (Phase::Move { .. }, true) => "reset in a chain transfer",
+        (Phase::Move(_), false) => "reset in a simple transfer",
+        (Phase::Move(_), true) => "reset in a chain transfer",
     });
-    let written = matches!(engine.phase, Phase::Move { moved: 1.., .. });
+    let written = matches!(engine.phase, Phase::Move(Transfer { moved: 1.., .. }));
     coverage.see_if(written, "reset after a written burst");
 }
 
-fn run(shadow: &Shadow, steps: usize, most: usize, coverage: &mut Coverage) {
-    let busy = !idle(&shadow.engine);
+fn run(engine: &Engine, steps: usize, most: usize, coverage: &mut Counts) {
+    let busy = !engine.idle();
     coverage.see_if(most == 0, "run of no steps");
     coverage.see_if(most > 0 && steps == 0, "run on an idle engine");
     coverage.see_if(busy && steps > 0, "run stopped in the midst of a transfer");
@@ -292,7 +308,10 @@ fn run(shadow: &Shadow, steps: usize, most: usize, coverage: &mut Coverage) {
 }
 
 /// A good clock after `held`, with the flags before and after it.
-fn clock(bus: &Bus, held: &Clock, flags: u64, now: u64, coverage: &mut Coverage) {
+fn clock(bus: &Bus, held: &Clock, flags: u64, now: u64, coverage: &mut Counts) {
+    for flag in (0..64).filter(|flag| now & !flags & 1 << flag != 0) {
+        coverage.number("flag raised", flag);
+    }
     let clock = bus.clock();
     coverage.see_if(!clock.reset_high && flags != 0, "flags cleared by reset");
     coverage.see_if(now.count_ones() >= 6, "six flags or more");

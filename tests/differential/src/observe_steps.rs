@@ -1,13 +1,24 @@
 // Counts what the steps of a run did.
 
-use independent::engine::{Engine, Event, Phase};
+use independent::engine::{Engine, Event, Phase, Transfer};
 use independent::memory::Window;
 
-use crate::coverage::Coverage;
-use crate::maker::{BEATS, WIDTHS};
-use crate::shadow::{idle, Step, MEMORY, MOST_WINDOWS};
+use independent::memory::MOST_WINDOWS;
+use shared::coverage::Counts;
+
+use crate::maker::MEMORY;
 
 const TOP: u64 = 1 << 32;
+
+/// One step that was taken.
+pub struct Step<'a> {
+    pub before: &'a Engine,
+    pub windows: &'a [Window],
+    pub event: Event,
+    pub after: &'a Engine,
+    /// Memory after the step.
+    pub memory: &'a [u8],
+}
 
 /// What is remembered of a trace from record to record.
 pub struct Memo {
@@ -49,7 +60,7 @@ fn touches(windows: &[Window], start: u32, count: u32) -> bool {
 }
 
 /// Counts one step.
-pub fn one_step(step: &Step, memo: &mut Memo, coverage: &mut Coverage) {
+pub fn one_step(step: &Step, memo: &mut Memo, coverage: &mut Counts) {
     match step.event {
         Event::None => {}
         Event::Fetch { current } => fetched(step, current, memo, coverage),
@@ -60,7 +71,7 @@ pub fn one_step(step: &Step, memo: &mut Memo, coverage: &mut Coverage) {
     }
 }
 
-fn fetched(step: &Step, current: u32, memo: &mut Memo, coverage: &mut Coverage) {
+fn fetched(step: &Step, current: u32, memo: &mut Memo, coverage: &mut Counts) {
     let at = current as usize;
     let word = |place: usize| {
         let bytes = &step.memory[at + place..at + place + 4];
@@ -83,7 +94,7 @@ fn fetched(step: &Step, current: u32, memo: &mut Memo, coverage: &mut Coverage) 
     }
 }
 
-fn halted(step: &Step, current: u32, bit: u32, memo: &mut Memo, coverage: &mut Coverage) {
+fn halted(step: &Step, current: u32, bit: u32, memo: &mut Memo, coverage: &mut Counts) {
     memo.restart = false;
     memo.at_tail = false;
     let status = touches(step.windows, current + 0x1c, 4);
@@ -102,21 +113,19 @@ fn halted(step: &Step, current: u32, bit: u32, memo: &mut Memo, coverage: &mut C
 /// Source, destination, bytes ahead and bytes moved of the transfer before the step.
 fn transfer(engine: &Engine) -> (u32, u32, u32, u32) {
     match engine.phase {
-        Phase::Move { source, destination, total, moved } => {
+        Phase::Move(Transfer { source, destination, total, moved }) => {
             (source + moved, destination + moved, total - moved, moved)
         }
         _ => unreachable!("a burst without a transfer"),
     }
 }
 
-fn moved(step: &Step, to: u32, bytes: u32, memo: &mut Memo, coverage: &mut Coverage) {
+fn moved(step: &Step, to: u32, bytes: u32, memo: &mut Memo, coverage: &mut Counts) {
     let (from, _, left, _) = transfer(step.before);
     let (width, beats) = (step.before.width, step.before.beats);
     memo.copied[to as usize..(to + bytes) as usize].fill(true);
     if bytes < left {
-        let row = WIDTHS.iter().position(|one| u32::from(*one) == width).unwrap_or(0);
-        let column = BEATS.iter().position(|one| u32::from(*one) == beats).unwrap_or(0);
-        coverage.cuts[row][column] += 1;
+        coverage.cut(width, beats);
         let page = (to + bytes).is_multiple_of(4096);
         coverage.see(if page { "burst ended by the page" } else { "burst ended by the beats" });
         let within = !to.is_multiple_of(width) && !page;
@@ -154,7 +163,7 @@ fn moved(step: &Step, to: u32, bytes: u32, memo: &mut Memo, coverage: &mut Cover
     }
 }
 
-fn failed(step: &Step, memo: &Memo, coverage: &mut Coverage) {
+fn failed(step: &Step, memo: &Memo, coverage: &mut Counts) {
     let (from, to, left, done) = transfer(step.before);
     let reach = burst(step.before, to, left);
     let past = |start: u32| u64::from(start) + u64::from(reach) > u64::from(MEMORY);
@@ -194,14 +203,14 @@ fn burst(engine: &Engine, to: u32, left: u32) -> u32 {
     left.min(reach.min(4096) - place)
 }
 
-fn updated(step: &Step, current: u32, word: u32, memo: &mut Memo, coverage: &mut Coverage) {
+fn updated(step: &Step, current: u32, word: u32, memo: &mut Memo, coverage: &mut Counts) {
     if word != 0x8000_0000 {
         memo.at_tail = false;
         return;
     }
     memo.copied[current as usize + 0x1c..current as usize + 0x20].fill(false);
     memo.descriptors += 1;
-    if idle(step.after) {
+    if step.after.idle() {
         memo.at_tail = true;
         memo.mode_changed = false;
         coverage.see_if(memo.old_tail.is_some(), "chain ended at its new tail");

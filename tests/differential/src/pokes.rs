@@ -1,31 +1,28 @@
 // Register accesses in every state, windows, and what may come between the steps of a transfer.
 
-use independent::engine::Phase;
+use independent::engine::{Phase, Transfer};
 
 use crate::clocks;
-use crate::maker::{
-    Maker, CHAIN, CONTROL, COUNT, CURRENT, DESTINATION, RESET, SOURCE, STATUS, TAIL,
-};
-use crate::shadow::MEMORY;
+use crate::maker::{Maker, MEMORY};
+use shared::registers::{BTT, CDMACR, CDMASR, CHAIN, CURDESC, DA, RESET, SA, TAILDESC};
 
 /// Offsets that are no register: between two of them, past the last, and far off.
-pub const BAD_OFFSETS: [u16; 14] =
+pub const BAD_OFFSETS: [u32; 14] =
     [1, 2, 3, 5, 0x27, 0x29, 0x2a, 0x2b, 0x2c, 0x30, 0x40, 0x100, 0xfffc, 0xffff];
 
 /// One access to any register, in whatever state the engine is.
 pub fn poke(maker: &mut Maker) {
     let random = &mut maker.random;
-    let offset =
-        if random.chance(92) { random.below(11) as u16 * 4 } else { random.pick(&BAD_OFFSETS) };
+    let offset = if random.chance(92) { random.below(11) * 4 } else { random.pick(&BAD_OFFSETS) };
     if random.chance(45) {
         maker.read(offset);
         return;
     }
     let value = match offset {
-        CONTROL => control_value(maker),
-        STATUS => random.pick(&[0x1000, 0x4000, 0x5000, 0, u32::MAX, !0x5000]),
-        CURRENT | TAIL => pointer(maker),
-        COUNT => count_value(maker),
+        CDMACR => control_value(maker),
+        CDMASR => random.pick(&[0x1000, 0x4000, 0x5000, 0, u32::MAX, !0x5000]),
+        CURDESC | TAILDESC => pointer(maker),
+        BTT => count_value(maker),
         _ if random.chance(20) => random.u32(),
         _ => maker.place(),
     };
@@ -34,7 +31,7 @@ pub fn poke(maker: &mut Maker) {
 
 /// A CDMACR value: seldom the reset, often one that keeps the mode.
 fn control_value(maker: &mut Maker) -> u32 {
-    let mode = if maker.shadow.engine.sg_mode { CHAIN } else { 0 };
+    let mode = if maker.replay.engine.sg_mode { CHAIN } else { 0 };
     let random = &mut maker.random;
     match random.below(100) {
         0..=39 => mode | random.pick(&[0, 0x1000, 0x4000, 0x5000]),
@@ -45,7 +42,7 @@ fn control_value(maker: &mut Maker) -> u32 {
 }
 
 fn pointer(maker: &mut Maker) -> u32 {
-    let engine = &maker.shadow.engine;
+    let engine = &maker.replay.engine;
     let near = [engine.current, engine.tail, engine.next, engine.held_next];
     let random = &mut maker.random;
     // The low six bits are dropped: they are garbage as often as not.
@@ -73,16 +70,14 @@ pub fn count_value(maker: &mut Maker) -> u32 {
 
 /// A sick window over something that will be read or written, or somewhere else.
 pub fn window(maker: &mut Maker) {
-    let engine = &maker.shadow.engine;
+    let engine = &maker.replay.engine;
     let (current, next, sg_mode) = (engine.current, engine.held_next, engine.sg_mode);
     let ahead = match engine.phase {
-        Phase::Move { source, destination, total, moved } => {
-            Some((source, destination, total, moved))
-        }
+        Phase::Move(transfer) => Some(transfer),
         _ => None,
     };
     let target = match (maker.random.below(100), ahead) {
-        (0..=49, Some((source, destination, total, moved))) => {
+        (0..=49, Some(Transfer { source, destination, total, moved })) => {
             // The first byte ahead, the last one, or any between.
             let any = maker.random.between(moved, total - 1);
             let at = maker.random.pick(&[moved, total - 1, any]);
@@ -116,7 +111,7 @@ pub fn window(maker: &mut Maker) {
 
 /// Bytes put into memory: over what a transfer is about to use, or anywhere.
 pub fn memory(maker: &mut Maker) {
-    let engine = &maker.shadow.engine;
+    let engine = &maker.replay.engine;
     let (current, next, sg_mode) = (engine.current, engine.held_next, engine.sg_mode);
     let length = maker.random.pick(&[1, 2, 3, 4, 8, 32, 33, 64, 100]);
     let place = match maker.random.below(100) {
@@ -134,23 +129,23 @@ pub fn memory(maker: &mut Maker) {
 fn interject(maker: &mut Maker) {
     match maker.random.below(100) {
         0..=49 => poke(maker),
-        50..=59 => maker.read(STATUS),
+        50..=59 => maker.read(CDMASR),
         60..=69 => move_tail(maker),
         70..=79 => memory(maker),
         80..=88 => window(maker),
         89..=92 => clocks::some(maker),
         93..=94 => {
             let other = maker.random.u32() & !RESET;
-            maker.write(CONTROL, RESET | other);
+            maker.write(CDMACR, RESET | other);
         }
-        _ => maker.write(STATUS, 0x5000),
+        _ => maker.write(CDMASR, 0x5000),
     }
 }
 
 /// A TAILDESC write: while a chain is busy it only replaces the tail.
 fn move_tail(maker: &mut Maker) {
     let tail = pointer(maker);
-    maker.write(TAIL, tail);
+    maker.write(TAILDESC, tail);
 }
 
 /// Takes the engine forward in pieces, with other records between them.
@@ -158,7 +153,7 @@ pub fn run(maker: &mut Maker) {
     let restless = maker.random.chance(60);
     for _ in 0..14 {
         // Few steps leave a chain before its update: that state is used when it comes.
-        let updating = matches!(maker.shadow.engine.phase, Phase::Update(_));
+        let updating = matches!(maker.replay.engine.phase, Phase::Update(_));
         while restless && maker.random.chance(if updating { 75 } else { 40 }) {
             interject(maker);
         }
@@ -172,7 +167,7 @@ pub fn run(maker: &mut Maker) {
             50..=64 if restless => maker.random.between(2, 4),
             _ if ahead > 120 && !maker.long => maker.random.between(5, 60),
             65..=69 => ahead.min(65_535),
-            70..=72 if maker.shadow.engine.sg_mode => maker.random.between(5, 40),
+            70..=72 if maker.replay.engine.sg_mode => maker.random.between(5, 40),
             73..=90 => 65_535,
             _ => maker.random.between(5, 60).min(ahead + 5),
         };
@@ -198,35 +193,35 @@ pub fn ready(maker: &mut Maker, chain: bool) {
         if maker.random.chance(10) {
             return;
         }
-        maker.write(CONTROL, RESET);
+        maker.write(CDMACR, RESET);
     }
     if maker.busy() {
         if maker.random.chance(6) {
             return;
         }
-        maker.write(CONTROL, RESET);
+        maker.write(CDMACR, RESET);
     }
-    if maker.shadow.engine.sg_mode != chain || maker.random.chance(10) {
+    if maker.replay.engine.sg_mode != chain || maker.random.chance(10) {
         let mode = if chain { CHAIN } else { 0 };
         let enables = maker.random.pick(&[0, 0, 0x1000, 0x4000, 0x5000]);
-        maker.write(CONTROL, mode | enables);
+        maker.write(CDMACR, mode | enables);
     }
 }
 
 /// After a transfer: look at the registers, and clear the interrupts.
 pub fn look(maker: &mut Maker) {
     if maker.random.chance(50) {
-        maker.read(STATUS);
+        maker.read(CDMASR);
     }
     if maker.random.chance(20) {
-        let offset = maker.random.pick(&[CONTROL, CURRENT, TAIL, SOURCE, DESTINATION, COUNT]);
+        let offset = maker.random.pick(&[CDMACR, CURDESC, TAILDESC, SA, DA, BTT]);
         maker.read(offset);
     }
     if maker.random.chance(30) {
         let value = maker.random.pick(&[0x1000, 0x4000, 0x5000, 0]);
-        maker.write(STATUS, value);
+        maker.write(CDMASR, value);
         if maker.random.chance(50) {
-            maker.read(STATUS);
+            maker.read(CDMASR);
         }
     }
 }

@@ -1,8 +1,8 @@
 // Calls on engines with any arguments: register writes that do something, and all others.
 
 use crate::engine_desk::Call;
-use crate::random::Random;
 use crate::states::{address, count, pointer};
+use shared::random::Random;
 
 const REGISTERS: [u32; 7] = [0x00, 0x04, 0x08, 0x10, 0x18, 0x20, 0x28];
 

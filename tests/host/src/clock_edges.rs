@@ -3,10 +3,10 @@
 
 use crate::clocks::{any_clock, any_monitor, put_out_of_range};
 use crate::coverage::Coverage;
-use crate::interface::Clock;
 use crate::monitor_desk::MonitorDesk;
-use crate::random::Random;
-use crate::words::BITS_BEFORE;
+use shared::interface::Clock;
+use shared::random::Random;
+use shared::words::{clock_before, monitor_words, BITS_BEFORE};
 
 /// Each field of a clock alone above its limit, on any monitor, in reset and out of it.
 pub fn clock_fields(random: &mut Random, coverage: &mut Coverage) -> Result<(), String> {
@@ -35,14 +35,8 @@ pub fn flags(random: &mut Random, coverage: &mut Coverage) -> Result<(), String>
     for flags in &sets {
         for snapshot in [0, *flags, !*flags] {
             for bits in 0..8 {
-                let mut words = any_monitor(random);
-                words[..4].copy_from_slice(&[
-                    *flags as u32,
-                    (*flags >> 32) as u32,
-                    snapshot as u32,
-                    (snapshot >> 32) as u32,
-                ]);
-                words[BITS_BEFORE] = bits;
+                let before = Clock { bits, ..clock_before(&any_monitor(random)) };
+                let words = monitor_words(*flags, snapshot, &before);
                 desk.set_words(&words);
                 desk.clock(
                     (4, 16),

@@ -2,15 +2,12 @@
 // ones, and monitors that no sequence leads to.
 
 use crate::coverage::Coverage;
-use crate::interface::Clock;
 use crate::monitor_desk::MonitorDesk;
-use crate::random::Random;
-use crate::settings;
-use crate::words::{clock_before, MonitorWords, BITS_BEFORE};
-
-const OUT_OF_RESET: u32 = 1;
-const VALID: u32 = 2;
-const READY: u32 = 4;
+use shared::clocks::{any_address, GOOD_CACHE, OUT_OF_RESET, READY, VALID};
+use shared::interface::Clock;
+use shared::random::Random;
+use shared::settings;
+use shared::words::{clock_before, monitor_words, MonitorWords, BITS_BEFORE};
 
 pub fn clocks(random: &mut Random, coverage: &mut Coverage) -> Result<(), String> {
     let listed = settings::listed(random);
@@ -57,22 +54,12 @@ pub fn any_clock(random: &mut Random) -> Clock {
     }
 }
 
-/// Addresses at page edges, at the top, and others.
-fn any_address(random: &mut Random) -> u32 {
-    match random.below(4) {
-        0 => random.below(1 << 20) << 12,
-        1 => (random.below(1 << 20) << 12).wrapping_sub(random.between(1, 260)),
-        2 => u32::MAX - random.below(300),
-        _ => random.u32(),
-    }
-}
-
 /// A valid clock that raises none of the flags 37 to 44, or nearly so.
 fn clean(random: &mut Random, width: u32) -> Clock {
     let mut clock = any_clock(random);
     clock.bits = OUT_OF_RESET | VALID | random.below(2) << 2;
     clock.size = random.below(width.trailing_zeros() + 1);
-    clock.cache = random.pick(&[0, 1, 2, 3, 6, 7, 10, 11, 14, 15]);
+    clock.cache = random.pick(&GOOD_CACHE);
     clock.burst = random.below(3);
     match clock.burst {
         0 => clock.length = random.below(17),
@@ -150,33 +137,19 @@ pub fn put_out_of_range(random: &mut Random, clock: &mut Clock, number: u32) {
 /// A monitor with any flags, any snapshot and any clock before, now and then with bits that no
 /// monitor has.
 pub fn any_monitor(random: &mut Random) -> MonitorWords {
-    let mut words = [0; 14];
-    for half in 0..2 {
-        // Flags and snapshot of the same kinds: none, all, one, any.
+    // Flags and snapshot of the same kinds: none, all, one, any.
+    let [flags, snapshot] = [(); 2].map(|()| {
         let kind = random.below(5);
-        for word in &mut words[2 * half..2 * half + 2] {
-            *word = match kind {
-                0 => 0,
-                1 => u32::MAX,
-                2 => 1 << random.below(32),
-                3 => u32::from(random.chance(50)) << random.below(32),
-                _ => random.u32(),
-            };
-        }
-    }
-    let before = any_clock(random);
-    words[BITS_BEFORE..].copy_from_slice(&[
-        before.bits,
-        before.address,
-        before.length,
-        before.size,
-        before.burst,
-        before.cache,
-        before.prot,
-        before.qos,
-        before.region,
-        before.id,
-    ]);
+        let halves = [(); 2].map(|()| match kind {
+            0 => 0,
+            1 => u32::MAX,
+            2 => 1 << random.below(32),
+            3 => u32::from(random.chance(50)) << random.below(32),
+            _ => random.u32(),
+        });
+        u64::from(halves[1]) << 32 | u64::from(halves[0])
+    });
+    let mut words = monitor_words(flags, snapshot, &any_clock(random));
     if random.chance(20) {
         // The header takes any number there, also where no clock would be taken with it.
         let at = random.between(5, 13) as usize;

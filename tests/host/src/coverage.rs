@@ -1,12 +1,17 @@
-// The coverage table: what the calls of a run made the independent program do. A row that stays at
-// zero means that the calls did not reach something, and makes the run fail.
+// The coverage table: what the calls of a run made the independent program do.
 
 use std::collections::BTreeMap;
+use std::ops::{Deref, DerefMut};
 
-use crate::settings::{BEATS, WIDTHS};
+use shared::clocks::FLAGS;
+use shared::coverage::{
+    add_cells, add_rows, add_table, print_by_settings, BySettings, Counts, Groups,
+};
+use shared::settings;
+use shared::table::{print_row, print_table};
+
 use crate::situations::SITUATIONS;
 use crate::spoil::KINDS;
-use crate::table::{print_named, print_row, print_table};
 
 #[derive(Clone, Copy)]
 pub enum Function {
@@ -41,12 +46,7 @@ const BESIDE: [&[(u32, u32)]; 7] = [
     &[(1, 9), (1, 13), (9, 13)],
 ];
 
-/// Flags that a clock can raise.
-pub const FLAGS: [u32; 18] =
-    [37, 38, 39, 41, 42, 43, 44, 45, 46, 47, 48, 49, 50, 52, 53, 54, 55, 56];
-
-/// Rows that are counted by number, each group with the numbers it expects.
-const NUMBERED: [(&str, &[u32]); 8] = [
+const NUMBERED: &Groups = &[
     ("event of a step", &[0, 1, 2, 3, 4, 5]),
     ("bit of a fault", &[5, 6]),
     ("bit of a halt", &[8, 9, 10]),
@@ -57,53 +57,36 @@ const NUMBERED: [(&str, &[u32]); 8] = [
     ("number of windows that were taken", &[0, 1, 2, 3, 4, 8, 15, 16]),
 ];
 
-pub const STATES: [&str; 7] = [
-    "simple idle",
-    "chain idle",
-    "simple move",
-    "chain fetch",
-    "chain move",
-    "chain update",
-    "error",
-];
-
-/// Registers by offset div 4, and one row for offsets that are none.
-pub const REGISTERS: [&str; 12] = [
-    "00 CDMACR",
-    "04 CDMASR",
-    "08 CURDESC",
-    "0C upper",
-    "10 TAILDESC",
-    "14 upper",
-    "18 SA",
-    "1C upper",
-    "20 DA",
-    "24 upper",
-    "28 BTT",
-    "none",
-];
-
+/// What is counted beside the counts of every coverage table.
 #[derive(Clone)]
 pub struct Coverage {
+    counts: Counts,
     answers: BTreeMap<(usize, u32), u64>,
     beside: BTreeMap<(usize, u32, u32), u64>,
-    numbers: BTreeMap<(&'static str, u32), u64>,
-    named: BTreeMap<&'static str, u64>,
     /// Calls that were done, by function, width and beats.
-    settings: [[[u64; 8]; 6]; 7],
-    /// Bursts that a step ended before their transfer, by width and beats.
-    pub cuts: [[u64; 8]; 6],
+    settings: [BySettings; 7],
     /// Calls of `interrupt_line` by IOC_Irq, IOC_IrqEn, Err_Irq and Err_IrqEn.
     pub lines: [u64; 16],
     /// The lowest flag that was reported.
     pub lowest: [u64; 64],
-    /// Writes and reads that got past answers 1 and 9, by register and state.
-    pub writes: [[u64; 7]; 12],
-    pub reads: [[u64; 7]; 12],
     /// Refused calls on an engine with one fault alone: read, write, interrupt line, step, run.
     pub spoiled: [[u64; 5]; KINDS.len()],
     /// All calls.
     pub calls: u64,
+}
+
+impl Deref for Coverage {
+    type Target = Counts;
+
+    fn deref(&self) -> &Counts {
+        &self.counts
+    }
+}
+
+impl DerefMut for Coverage {
+    fn deref_mut(&mut self) -> &mut Counts {
+        &mut self.counts
+    }
 }
 
 impl Coverage {
@@ -113,21 +96,14 @@ impl Coverage {
             answers.flat_map(|(at, (_, list))| list.iter().map(move |number| (at, *number)));
         let beside = BESIDE.iter().enumerate();
         let beside = beside.flat_map(|(at, list)| list.iter().map(move |(a, b)| (at, *a, *b)));
-        let numbers = NUMBERED
-            .iter()
-            .flat_map(|(group, list)| list.iter().map(move |number| (*group, *number)));
-        let named = SITUATIONS.iter().flat_map(|(_, names)| names.iter());
+        let names = SITUATIONS.iter().flat_map(|(_, names)| names.iter().copied());
         Coverage {
+            counts: Counts::new(NUMBERED, names),
             answers: answers.map(|row| (row, 0)).collect(),
             beside: beside.map(|row| (row, 0)).collect(),
-            numbers: numbers.map(|row| (row, 0)).collect(),
-            named: named.map(|name| (*name, 0)).collect(),
             settings: [[[0; 8]; 6]; 7],
-            cuts: [[0; 8]; 6],
             lines: [0; 16],
             lowest: [0; 64],
-            writes: [[0; 7]; 12],
-            reads: [[0; 7]; 12],
             spoiled: [[0; 5]; KINDS.len()],
             calls: 0,
         }
@@ -137,7 +113,7 @@ impl Coverage {
     pub fn answer(&mut self, function: Function, answer: u32, width: u32, beats: u32) {
         self.calls += 1;
         *self.answers.entry((function as usize, answer)).or_insert(0) += 1;
-        if let (0, Some((row, column))) = (answer, place(width, beats)) {
+        if let (0, Some((row, column))) = (answer, settings::place(width, beats)) {
             self.settings[function as usize][row][column] += 1;
         }
     }
@@ -153,46 +129,13 @@ impl Coverage {
         }
     }
 
-    /// Counts `number` in a numbered group.
-    pub fn number(&mut self, group: &'static str, number: u32) {
-        *self.numbers.entry((group, number)).or_insert(0) += 1;
-    }
-
-    /// Counts a number of a group that expects only some of those that come.
-    pub fn number_if_expected(&mut self, group: &'static str, number: u32) {
-        if let Some(count) = self.numbers.get_mut(&(group, number)) {
-            *count += 1;
-        }
-    }
-
-    /// Counts a situation.
-    pub fn see(&mut self, name: &'static str) {
-        *self.named.get_mut(name).expect("a situation of the list") += 1;
-    }
-
-    pub fn see_if(&mut self, seen: bool, name: &'static str) {
-        if seen {
-            self.see(name);
-        }
-    }
-
-    pub fn cut(&mut self, width: u32, beats: u32) {
-        if let Some((row, column)) = place(width, beats) {
-            self.cuts[row][column] += 1;
-        }
-    }
-
     pub fn add(&mut self, other: &Coverage) {
+        self.counts.add(&other.counts);
         add_rows(&mut self.answers, &other.answers);
         add_rows(&mut self.beside, &other.beside);
-        add_rows(&mut self.numbers, &other.numbers);
-        add_rows(&mut self.named, &other.named);
         for (sum, table) in self.settings.iter_mut().zip(&other.settings) {
             add_table(sum, table);
         }
-        add_table(&mut self.cuts, &other.cuts);
-        add_table(&mut self.writes, &other.writes);
-        add_table(&mut self.reads, &other.reads);
         add_table(&mut self.spoiled, &other.spoiled);
         add_cells(&mut self.lines, &other.lines);
         add_cells(&mut self.lowest, &other.lowest);
@@ -213,36 +156,26 @@ impl Coverage {
             let row = row.map(|((_, given, held), count)| (format!("{given} over {held}"), *count));
             zeros += print_row(&format!("answers of {name} where another held too"), row.collect());
         }
-        for (group, _) in NUMBERED {
-            let row = self.numbers.range((group, 0)..=(group, u32::MAX));
-            let row = row.map(|((_, number), count)| (number.to_string(), *count));
-            zeros += print_row(group, row.collect());
-        }
+        zeros += self.print_numbers(NUMBERED);
         let lowest = self.lowest.iter().enumerate().map(|(flag, count)| (flag.to_string(), *count));
         zeros += print_row("lowest flag (0: also where none is up)", lowest.collect());
         let lines = self.lines.iter().enumerate();
         let lines = lines.map(|(bits, count)| (format!("{bits:04b}"), *count));
         zeros += print_row("IOC_Irq, IOC_IrqEn, Err_Irq, Err_IrqEn of the line", lines.collect());
 
-        let beats = BEATS.map(|beats| format!("L={beats}"));
-        let widths = WIDTHS.map(|width| format!("W={width}"));
-        zeros +=
-            print_table("calls done, of the function with least", &beats, &widths, &self.least());
-        zeros += print_table("bursts that end before their transfer", &beats, &widths, &self.cuts);
-        let (states, registers) = (STATES.map(String::from), REGISTERS.map(String::from));
-        zeros += print_table("register writes", &states, &registers, &self.writes);
-        zeros += print_table("register reads", &states, &registers, &self.reads);
+        zeros += print_by_settings("calls done, of the function with least", &self.least());
+        zeros += self.print_tables();
         let calls = ["read", "write", "line", "step", "run"].map(String::from);
         let kinds = KINDS.map(|kind| kind.name.to_string());
         zeros += print_table("answer 9 for this alone", &calls, &kinds, &self.spoiled);
         for (title, names) in SITUATIONS {
-            zeros += print_named(title, names, &self.named);
+            zeros += self.print_list(title, names);
         }
         zeros
     }
 
     /// For each width and beats, the calls done of the function that has least.
-    fn least(&self) -> [[u64; 8]; 6] {
+    fn least(&self) -> BySettings {
         let mut least = self.settings[0];
         for table in &self.settings[1..] {
             for (row, counts) in least.iter_mut().zip(table) {
@@ -252,30 +185,5 @@ impl Coverage {
             }
         }
         least
-    }
-}
-
-/// Row and column of listed settings.
-fn place(width: u32, beats: u32) -> Option<(usize, usize)> {
-    let row = WIDTHS.iter().position(|listed| *listed == width)?;
-    let column = BEATS.iter().position(|listed| *listed == beats)?;
-    Some((row, column))
-}
-
-fn add_rows<K: Copy + Ord>(sum: &mut BTreeMap<K, u64>, other: &BTreeMap<K, u64>) {
-    for (row, count) in other {
-        *sum.entry(*row).or_insert(0) += count;
-    }
-}
-
-fn add_cells<const C: usize>(sum: &mut [u64; C], other: &[u64; C]) {
-    for (cell, count) in sum.iter_mut().zip(other) {
-        *cell += count;
-    }
-}
-
-fn add_table<const C: usize, const R: usize>(sum: &mut [[u64; C]; R], other: &[[u64; C]; R]) {
-    for (row, counts) in sum.iter_mut().zip(other) {
-        add_cells(row, counts);
     }
 }

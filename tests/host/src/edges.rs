@@ -7,11 +7,11 @@ use crate::coverage::Coverage;
 use crate::engine_desk::{Call, EngineDesk};
 use crate::monitor_desk::MonitorDesk;
 use crate::plans::{plan, Transfer};
-use crate::random::Random;
-use crate::settings::{BEATS, WIDTHS};
 use crate::spoil::KINDS;
 use crate::states::{fresh, in_phase};
-use crate::words::{
+use shared::random::Random;
+use shared::settings::{BEATS, WIDTHS};
+use shared::words::{
     EngineWords, CHAIN_MODE, COMPLETE_ENABLE, COMPLETE_INTERRUPT, ERROR_BIT, ERROR_BITS,
     ERROR_ENABLE, ERROR_INTERRUPT, FETCH, IDLE, MOVE, PHASE, SOURCE, TRUTHS, UPDATES,
 };

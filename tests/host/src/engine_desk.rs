@@ -3,11 +3,11 @@
 // byte.
 
 use crate::coverage::Coverage;
-use crate::interface::{self, Ran, Stepped, Value, ENGINE_WORDS};
 use crate::lent::Lent;
 use crate::observe::{self, Seen};
 use crate::reference;
-use crate::words::EngineWords;
+use shared::interface::{self, Ran, Stepped, Value, ENGINE_WORDS};
+use shared::words::EngineWords;
 
 /// A call on an engine.
 #[derive(Clone, Copy, Debug, PartialEq)]

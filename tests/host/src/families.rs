@@ -7,8 +7,8 @@ use crate::edges;
 use crate::large;
 use crate::lone_calls::lone_calls;
 use crate::plans;
-use crate::random::Random;
 use crate::sessions::session;
+use shared::random::Random;
 
 type Case = fn(&mut Random, &mut Coverage) -> Result<(), String>;
 

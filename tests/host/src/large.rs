@@ -1,16 +1,16 @@
 // The few cases that need much memory or many steps.
 
+use independent::memory::LONGEST as MOST_MEMORY;
+
 use crate::coverage::Coverage;
 use crate::engine_desk::{Call, EngineDesk};
-use crate::random::Random;
 use crate::spoil::KINDS;
 use crate::states::fresh;
-use crate::words::{
+use shared::random::Random;
+use shared::words::{
     EngineWords, CHAIN_MODE, CURRENT, DESTINATION, FETCH, MOVE, MOVED, PHASE, SOURCE, TAIL, TOTAL,
     WIDTH,
 };
-
-const MOST_MEMORY: usize = 16_777_216;
 
 fn moving(source: u32, destination: u32, total: u32, moved: u32) -> EngineWords {
     let mut words = fresh(128, 256);

@@ -4,12 +4,12 @@
 use crate::calls;
 use crate::coverage::Coverage;
 use crate::engine_desk::{Call, EngineDesk, Given};
-use crate::random::Random;
-use crate::settings;
 use crate::spoil::KINDS;
 use crate::states::{self, well_formed};
 use crate::surroundings::{put_descriptor, windows};
-use crate::words::{EngineWords, BEATS, CURRENT, FETCH, PHASE, WIDTH};
+use shared::random::Random;
+use shared::settings;
+use shared::words::{EngineWords, BEATS, CURRENT, FETCH, PHASE, WIDTH};
 
 /// Some engines in turn beside one memory, each called in every way.
 pub fn lone_calls(random: &mut Random, coverage: &mut Coverage) -> Result<(), String> {

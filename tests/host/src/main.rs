@@ -8,7 +8,6 @@ mod coverage;
 mod edges;
 mod engine_desk;
 mod families;
-mod interface;
 mod large;
 mod lent;
 mod lone_calls;
@@ -17,27 +16,18 @@ mod observe;
 mod observe_clocks;
 mod observe_steps;
 mod plans;
-// The same random source as in the differential test.
-#[path = "../../differential/src/random.rs"]
-mod random;
 mod reference;
 mod sessions;
-mod settings;
 mod situations;
 mod spoil;
 mod states;
 mod surroundings;
-// The same printing of counts as in the differential test.
-#[path = "../../differential/src/table.rs"]
-mod table;
 mod vast;
-mod words;
 
 use std::process::ExitCode;
-use std::sync::atomic::{AtomicU64, Ordering};
-use std::sync::Mutex;
-use std::thread;
-use std::time::{SystemTime, UNIX_EPOCH};
+
+use shared::crew::{self, Outcome};
+use shared::random::fresh_seed;
 
 use coverage::Coverage;
 
@@ -83,49 +73,18 @@ fn options(mut arguments: impl Iterator<Item = String>) -> Result<Options, Strin
     Ok(options)
 }
 
-fn clock_seed() -> u64 {
-    SystemTime::now().duration_since(UNIX_EPOCH).map_or(0, |time| time.as_nanos() as u64)
-}
-
-/// Takes all cases on all processors, up to the first difference: the header lets every thread
-/// call.
-fn take_all(options: &Options, seed: u64) -> (Coverage, Option<String>) {
+/// Takes all cases, up to the first difference: the header lets every thread call.
+fn take_all(options: &Options, seed: u64) -> Outcome<Coverage> {
     let fixed = families::FIRST + options.cases;
-    let total = fixed + options.fresh;
-    let next = AtomicU64::new(0);
-    let shared = Mutex::new((Coverage::new(), None));
-    let workers = thread::available_parallelism().map_or(2, |count| count.get());
-    thread::scope(|scope| {
-        for _ in 0..workers {
-            scope.spawn(|| {
-                let mut coverage = Coverage::new();
-                let mut told = Ok(());
-                while told.is_ok() {
-                    let at = next.fetch_add(1, Ordering::Relaxed);
-                    if at >= total {
-                        break;
-                    }
-                    // Fresh cases are random ones too, so that they start where those do.
-                    let (seed, index) = if at < fixed {
-                        (FIXED_SEED, at)
-                    } else {
-                        (seed, families::FIRST + at - fixed)
-                    };
-                    if options.tell {
-                        eprintln!("seed {seed}, case {index}");
-                    }
-                    told = families::take(seed, index, &mut coverage);
-                }
-                let mut shared = shared.lock().expect("no worker panics");
-                shared.0.add(&coverage);
-                if let Err(told) = told {
-                    next.store(total, Ordering::Relaxed);
-                    shared.1.get_or_insert(told);
-                }
-            });
+    crew::take_all(fixed + options.fresh, Coverage::new, Coverage::add, |at, coverage| {
+        // Fresh cases are random ones too, so that they start where those do.
+        let (seed, index) =
+            if at < fixed { (FIXED_SEED, at) } else { (seed, families::FIRST + at - fixed) };
+        if options.tell {
+            eprintln!("seed {seed}, case {index}");
         }
-    });
-    shared.into_inner().expect("no worker panics")
+        families::take(seed, index, coverage)
+    })
 }
 
 fn main() -> ExitCode {
@@ -136,7 +95,7 @@ fn main() -> ExitCode {
             return ExitCode::from(2);
         }
     };
-    let seed = options.seed.unwrap_or_else(clock_seed);
+    let seed = options.seed.unwrap_or_else(fresh_seed);
     if let Some(case) = options.case {
         if let Err(told) = families::take(seed, case, &mut Coverage::new()) {
             println!("{told}");
@@ -146,7 +105,7 @@ fn main() -> ExitCode {
         return ExitCode::SUCCESS;
     }
     println!("fresh cases with --seed {seed}");
-    let (coverage, difference) = take_all(&options, seed);
+    let Outcome { counts: coverage, difference, .. } = take_all(&options, seed);
     if let Some(told) = difference {
         println!("{told}");
         return ExitCode::FAILURE;

@@ -2,11 +2,11 @@
 // which they have to be the same in every word.
 
 use crate::coverage::Coverage;
-use crate::interface::{belikumba_bus_clock, Clock, Clocked, MONITOR_WORDS};
 use crate::lent::Lent;
 use crate::observe_clocks::{self, Seen};
 use crate::reference;
-use crate::words::MonitorWords;
+use shared::interface::{belikumba_bus_clock, Clock, Clocked, MONITOR_WORDS};
+use shared::words::MonitorWords;
 
 pub struct MonitorDesk {
     library: Lent<u32>,

@@ -2,18 +2,19 @@
 // them.
 
 use independent::answer::settings_listed;
+use independent::cut::LONGEST as MOST_BYTES;
+use independent::engine::Engine;
+use independent::memory::LONGEST as MOST_MEMORY;
+use shared::registers::none_at;
 
 use crate::coverage::{Coverage, Function};
 use crate::engine_desk::{Call, Given};
 use crate::observe_steps;
-use crate::words::{
+use shared::words::{
     self, EngineWords, BEATS, CHAIN_MODE, COMPLETE_ENABLE, COMPLETE_INTERRUPT, COUNT_REGISTER,
-    CURRENT, DESTINATION, ERROR_BIT, ERROR_ENABLE, ERROR_INTERRUPT, FETCH, IDLE, MOVE, MOVED,
-    PHASE, SOURCE, TAIL, TOTAL, WIDTH,
+    CURRENT, DESTINATION, ERROR_BIT, ERROR_ENABLE, ERROR_INTERRUPT, IDLE, MOVE, MOVED, PHASE,
+    SOURCE, TAIL, TOTAL, WIDTH,
 };
-
-const MOST_BYTES: u32 = 8_388_607;
-const MOST_MEMORY: usize = 16_777_216;
 
 /// What was changed since the last step or run.
 #[derive(Clone, Copy, Default)]
@@ -62,8 +63,8 @@ pub fn engine_call(seen: &Seen, coverage: &mut Coverage) {
     }
     match seen.call {
         Call::Read { offset } => {
-            if let Some(state) = state(seen.before) {
-                coverage.reads[register(offset)][state] += 1;
+            if let Some(engine) = taken(seen.before) {
+                coverage.read(offset, &engine);
             }
         }
         Call::Write { offset, value } => write(seen, offset, value, answer, coverage),
@@ -83,12 +84,12 @@ fn beside(seen: &Seen, answer: u32, coverage: &mut Coverage) {
     let state = (9, !engine.is_some_and(|engine| engine.well_formed()));
     let held = match seen.call {
         Call::InterruptLine => vec![settings, state],
-        Call::Read { offset } => vec![settings, state, (3, register(offset) == 11)],
+        Call::Read { offset } => vec![settings, state, (3, none_at(offset))],
         Call::Write { offset, .. } => {
             let chain = before[CHAIN_MODE] == 1;
             // An error bit stands with an idle engine alone, which leaves the wrong mode.
             let mode = offset == 0x10 && !chain || offset == 0x28 && chain;
-            vec![settings, state, (3, register(offset) == 11), (4, mode)]
+            vec![settings, state, (3, none_at(offset)), (4, mode)]
         }
         Call::Step | Call::Run { .. } => {
             let long = seen.memory > MOST_MEMORY;
@@ -111,38 +112,18 @@ fn edges(words: &EngineWords, coverage: &mut Coverage) {
     coverage.see_if(words[CURRENT] == u32::MAX - 63, "current pointer of 2^32 - 64");
 }
 
-/// The column of the register tables, for an engine that is taken.
-fn state(words: &EngineWords) -> Option<usize> {
-    let engine = words::engine(words)?;
-    if !engine.well_formed() || !settings_listed(engine.width, engine.beats) {
-        return None;
-    }
-    Some(match (words[ERROR_BIT], words[PHASE], words[CHAIN_MODE]) {
-        (0, IDLE, 0) => 0,
-        (0, IDLE, _) => 1,
-        (0, MOVE, 0) => 2,
-        (0, FETCH, _) => 3,
-        (0, MOVE, _) => 4,
-        (0, _, _) => 5,
-        _ => 6,
-    })
-}
-
-/// The row of the register tables.
-fn register(offset: u32) -> usize {
-    if offset.is_multiple_of(4) && offset <= 0x28 {
-        offset as usize / 4
-    } else {
-        11
-    }
+/// The engine of the words, if it is one that is taken.
+fn taken(words: &EngineWords) -> Option<Engine> {
+    words::engine(words)
+        .filter(|engine| engine.well_formed() && settings_listed(engine.width, engine.beats))
 }
 
 fn write(seen: &Seen, offset: u32, value: u32, answer: u32, coverage: &mut Coverage) {
     let (before, after) = (seen.before, seen.after);
-    let Some(state) = state(before) else {
+    let Some(engine) = taken(before) else {
         return;
     };
-    coverage.writes[register(offset)][state] += 1;
+    coverage.write(offset, &engine);
     coverage.see_if(offset > 0x30, "offset above 0x30");
     let busy = before[PHASE] != IDLE;
     let cleared = |at: usize| before[at] == 1 && after[at] == 0;

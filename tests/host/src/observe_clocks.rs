@@ -3,8 +3,8 @@
 use independent::answer::settings_listed;
 
 use crate::coverage::{Coverage, Function};
-use crate::interface::{Clock, Clocked};
-use crate::words::{clock_before, MonitorWords, BITS_BEFORE};
+use shared::interface::{Clock, Clocked};
+use shared::words::{self, clock_before, MonitorWords, BITS_BEFORE};
 
 /// One clock and the monitor before and after it.
 pub struct Seen<'a> {
@@ -60,10 +60,8 @@ pub fn bus_clock(seen: &Seen, coverage: &mut Coverage) {
 
 fn taken(seen: &Seen, coverage: &mut Coverage) {
     let (clock, before, after) = (seen.clock, seen.before, seen.after);
-    let both =
-        |words: &MonitorWords, at: usize| u64::from(words[at + 1]) << 32 | u64::from(words[at]);
-    let (flags_before, flags) = (both(before, 0), both(after, 0));
-    let (snapshot_before, snapshot) = (both(before, 2), both(after, 2));
+    let (flags_before, flags) = (words::flags(before), words::flags(after));
+    let (snapshot_before, snapshot) = (words::snapshot(before), words::snapshot(after));
     coverage.lowest[seen.given.lowest as usize] += 1;
     coverage.see_if(seen.given.count == 0, "no flag up");
     coverage.see_if(seen.given.count == 64, "all 64 flags up");

@@ -1,17 +1,18 @@
 // Counts what a step or a run did, and with which memory and windows.
 
+use independent::memory::LONGEST as MOST_MEMORY;
+
 use crate::coverage::Coverage;
 use crate::engine_desk::{Call, Given};
-use crate::interface::{Ran, Stepped};
 use crate::observe::Seen;
 use crate::reference::pairs;
-use crate::words::{
+use shared::interface::{Ran, Stepped};
+use shared::words::{
     BEATS, COMPLETE_INTERRUPT, CURRENT, DESTINATION, ERROR_BIT, ERROR_INTERRUPT, FETCH, IDLE, MOVE,
     MOVED, PHASE, SOURCE, TAIL, TOTAL, WIDTH,
 };
 
 const TOP: u64 = 1 << 32;
-const MOST_MEMORY: usize = 16_777_216;
 
 const FETCH_EVENT: u32 = 1;
 const MOVE_EVENT: u32 = 2;

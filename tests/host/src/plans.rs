@@ -1,13 +1,13 @@
 // Plans, with room to spare, with just enough and with too little.
 
 use crate::coverage::{Coverage, Function};
-use crate::interface::belikumba_plan;
 use crate::lent::Lent;
-use crate::random::Random;
 use crate::reference;
-use crate::settings;
+use independent::cut::LONGEST as MOST_BYTES;
+use shared::interface::belikumba_plan;
+use shared::random::Random;
+use shared::settings;
 
-const MOST_BYTES: u32 = 8_388_607;
 const TOP: u64 = 1 << 32;
 
 #[derive(Clone, Copy, Debug)]

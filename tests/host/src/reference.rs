@@ -6,8 +6,8 @@ use independent::cut::plan_bytes;
 use independent::engine::Event;
 use independent::memory::{Window, LONGEST, MOST_WINDOWS};
 
-use crate::interface::{Clock, Clocked, Planned, Ran, Stepped, Value};
-use crate::words::{self, EngineWords, MonitorWords, BEATS, WIDTH};
+use shared::interface::{Clock, Clocked, Planned, Ran, Stepped, Value};
+use shared::words::{self, EngineWords, MonitorWords, BEATS, WIDTH};
 
 pub fn plan(width: u32, beats: u32, start: u32, count: u32, places: &mut [u8]) -> Planned {
     let (answer, bursts) = plan_bytes(width, beats, start, count, places);

@@ -6,12 +6,12 @@
 use crate::calls;
 use crate::coverage::Coverage;
 use crate::engine_desk::{Call, EngineDesk};
-use crate::random::Random;
-use crate::settings;
 use crate::spoil::KINDS;
 use crate::states::{self, address};
 use crate::surroundings::{calm_descriptor, descriptor, put_descriptor, windows};
-use crate::words::{CHAIN_MODE, CURRENT, ERROR_BIT, FETCH, IDLE, PHASE};
+use shared::random::Random;
+use shared::settings;
+use shared::words::{CHAIN_MODE, CURRENT, ERROR_BIT, FETCH, IDLE, PHASE};
 
 const CONTROL: u32 = 0x00;
 const CURRENT_REGISTER: u32 = 0x08;

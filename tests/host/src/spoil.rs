@@ -1,14 +1,13 @@
 // Engines with exactly one fault: what document 01 names as not well formed, and words that no
 // engine has.
 
-use crate::random::Random;
-use crate::words::{
+use independent::cut::LONGEST as MOST_BYTES;
+use shared::random::Random;
+use shared::words::{
     EngineWords, CHAIN_MODE, COMPLETE_ENABLE, COMPLETE_INTERRUPT, COUNT_REGISTER, CURRENT,
     DESTINATION, ERROR_BIT, ERROR_BITS, ERROR_ENABLE, ERROR_INTERRUPT, FETCH, HELD_NEXT, IDLE,
     MOVE, MOVED, NEXT, PHASE, SOURCE, TAIL, TOTAL, UPDATES,
 };
-
-const MOST_BYTES: u32 = 8_388_607;
 
 pub struct Kind {
     pub name: &'static str,

@@ -1,15 +1,14 @@
 // Well-formed engines of every phase, at the edges as often as within.
 
-use crate::random::Random;
-use crate::settings;
-use crate::words::{
+use independent::cut::LONGEST as MOST_BYTES;
+use shared::random::Random;
+use shared::settings;
+use shared::words::{
     EngineWords, BEATS, CHAIN_MODE, COMPLETE_ENABLE, COMPLETE_INTERRUPT, COUNT_REGISTER, CURRENT,
     DESTINATION, DESTINATION_REGISTER, ERROR_BIT, ERROR_BITS, ERROR_ENABLE, ERROR_INTERRUPT, FETCH,
     HELD_NEXT, IDLE, MOVE, MOVED, NEXT, PHASE, SOURCE, SOURCE_REGISTER, TAIL, TOTAL, UPDATES,
     WIDTH,
 };
-
-const MOST_BYTES: u32 = 8_388_607;
 
 /// A fresh engine with these settings.
 pub fn fresh(width: u32, beats: u32) -> EngineWords {

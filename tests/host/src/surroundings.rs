@@ -2,9 +2,9 @@
 // descriptors.
 
 use crate::engine_desk::EngineDesk;
-use crate::random::Random;
 use crate::states::{address, count, pointer};
-use crate::words::{EngineWords, CURRENT, DESTINATION, FETCH, IDLE, MOVE, MOVED, PHASE, SOURCE};
+use shared::random::Random;
+use shared::words::{EngineWords, CURRENT, DESTINATION, FETCH, IDLE, MOVE, MOVED, PHASE, SOURCE};
 
 /// Numbers of windows: any number of them, sometimes more than are allowed, sometimes one over.
 pub fn windows(random: &mut Random, words: &EngineWords, memory: u32) -> Vec<u32> {

@@ -4,10 +4,10 @@
 
 use std::alloc::{alloc_zeroed, dealloc, Layout};
 
-use crate::interface::{belikumba_plan, belikumba_run, belikumba_step, Planned, Ran, Stepped};
 use crate::reference;
 use crate::states::fresh;
-use crate::words::{CHAIN_MODE, FETCH, PHASE};
+use shared::interface::{belikumba_plan, belikumba_run, belikumba_step, Planned, Ran, Stepped};
+use shared::words::{CHAIN_MODE, FETCH, PHASE};
 
 const TOP: usize = 1 << 32;
 /// Bytes at each end that are looked at.

@@ -19,74 +19,98 @@ pub(crate) fn first_burst(width: u32, beats: u32, start: u32, count: u32) -> u32
     count.min(reach.min(PAGE) - place)
 }
 
-/// Number of bursts of the cut, without making it. For listed settings only.
-///
-/// Within a page the bursts end at multiples of `width * beats` counted from the first byte's
-/// word; every later page starts afresh, and `width * beats` divides it or covers it.
-#[inline]
-fn bursts_of(width: u32, beats: u32, start: u32, count: u32) -> u32 {
-    let chunk = (width * beats).min(PAGE);
-    let shift = chunk.trailing_zeros();
-    let place = start & (PAGE - 1);
-    let word = place & !(width - 1);
-    let room = PAGE - place;
-    let here = count.min(room);
-    let later = count - here;
-    ((place + here - word + chunk - 1) >> shift) + ((later + chunk - 1) >> shift)
+/// Bursts one behind the other that end at every `1 << shift` bytes from `anchor` on: those of a
+/// transfer within its first page, or those past it.
+struct Stretch {
+    start: u32,
+    count: u32,
+    anchor: u32,
+    shift: u32,
 }
 
-/// The refusals of a plan in their order 1, 7, 8, or its number of bursts.
+impl Stretch {
+    fn bursts(&self) -> u32 {
+        let bytes = self.start - self.anchor + self.count;
+        (bytes + (1 << self.shift) - 1) >> self.shift
+    }
+
+    /// Writes the bursts, all of the same length at first: the loop has no test and no division.
+    #[inline]
+    fn write<Place>(&self, places: &mut [Place], place: impl Fn(u32, u32) -> Place) {
+        let each = 1 << self.shift;
+        let mut at = self.anchor;
+        for one in places.iter_mut() {
+            *one = place(at, each);
+            at = at.wrapping_add(each); // 2^32 only after the last burst
+        }
+        // The first one starts later than its anchor, and the last one ends with the transfer.
+        let [.., last] = places else { return };
+        let last_start = at.wrapping_sub(each);
+        let end = self.start.wrapping_add(self.count);
+        *last = place(last_start, end.wrapping_sub(last_start));
+        let first = (each - (self.start - self.anchor)).min(self.count);
+        places[0] = place(self.start, first);
+    }
+}
+
+/// The cut of a transfer: within its first page bursts end at multiples of `width * beats` counted
+/// from the first byte's word; every later page starts afresh, and `width * beats` divides it or
+/// covers it, so that they go on evenly from there.
+fn stretches(width: u32, beats: u32, start: u32, count: u32) -> [Stretch; 2] {
+    let shift = (width * beats).min(PAGE).trailing_zeros();
+    let here = count.min(PAGE - start % PAGE);
+    let next_page = start.wrapping_add(here);
+    [
+        Stretch { start, count: here, anchor: start & !(width - 1), shift },
+        Stretch { start: next_page, count: count - here, anchor: next_page, shift },
+    ]
+}
+
+/// Plans into lent places of one burst each.
 #[inline]
-fn judge(width: u32, beats: u32, start: u32, count: u32, places: usize) -> Result<u32, u32> {
+fn plan_into<Place>(
+    width: u32,
+    beats: u32,
+    start: u32,
+    count: u32,
+    places: &mut [Place],
+    place: impl Fn(u32, u32) -> Place,
+) -> (u32, u32) {
+    // The refusals in their order 1, 7, 8.
     if !answer::settings_listed(width, beats) {
-        return Err(answer::SETTINGS);
+        return (answer::SETTINGS, 0);
     }
     // Reading: start + count equal to 2^32 is allowed.
     if count == 0 || count > LONGEST || u64::from(start) + u64::from(count) > 1 << 32 {
-        return Err(answer::PLAN);
+        return (answer::PLAN, 0);
     }
-    let bursts = bursts_of(width, beats, start, count);
-    // Reading: an odd last place is of no use.
-    if (places / 2) < bursts as usize {
-        return Err(answer::ROOM);
-    }
-    Ok(bursts)
+    let [first_page, later_pages] = stretches(width, beats, start, count);
+    let (here, later) = (first_page.bursts(), later_pages.bursts());
+    let bursts = here + later;
+    let Some(places) = places.get_mut(..bursts as usize) else {
+        return (answer::ROOM, 0);
+    };
+    let (places_here, places_later) = places.split_at_mut(here as usize);
+    first_page.write(places_here, &place);
+    later_pages.write(places_later, &place);
+    (answer::DONE, bursts)
 }
 
 /// Plans `count` bytes from `start` into lent places, two a burst: start, bytes.
 /// Gives the answer and the number of bursts (0 beside every answer but 0).
+/// Reading: an odd last place is of no use.
 pub fn plan(width: u32, beats: u32, start: u32, count: u32, places: &mut [u32]) -> (u32, u32) {
-    let bursts = match judge(width, beats, start, count, places.len()) {
-        Ok(bursts) => bursts,
-        Err(answer) => return (answer, 0),
-    };
-    let (mut at, mut left) = (start, count);
-    for pair in places.chunks_exact_mut(2).take(bursts as usize) {
-        let bytes = first_burst(width, beats, at, left);
-        pair[0] = at;
-        pair[1] = bytes;
-        at = at.wrapping_add(bytes); // 2^32 only after the last burst
-        left -= bytes;
-    }
-    (answer::DONE, bursts)
+    let (pairs, _) = places.as_chunks_mut();
+    plan_into(width, beats, start, count, pairs, |at, bytes| [at, bytes])
 }
 
 /// The same plan into lent bytes, four little-endian bytes a place.
 /// Reading: the length mod 4 bytes at the end stay as they are.
 pub fn plan_bytes(width: u32, beats: u32, start: u32, count: u32, places: &mut [u8]) -> (u32, u32) {
-    let bursts = match judge(width, beats, start, count, places.len() / 4) {
-        Ok(bursts) => bursts,
-        Err(answer) => return (answer, 0),
-    };
-    let (mut at, mut left) = (start, count);
-    for pair in places.chunks_exact_mut(8).take(bursts as usize) {
-        let bytes = first_burst(width, beats, at, left);
-        pair[..4].copy_from_slice(&at.to_le_bytes());
-        pair[4..].copy_from_slice(&bytes.to_le_bytes());
-        at = at.wrapping_add(bytes);
-        left -= bytes;
-    }
-    (answer::DONE, bursts)
+    let (pairs, _) = places.as_chunks_mut();
+    plan_into(width, beats, start, count, pairs, |at, bytes| {
+        (u64::from(at) | u64::from(bytes) << 32).to_le_bytes()
+    })
 }
 
 /// The definition itself: is the burst from `from` up to, not including, `to` legal?

@@ -14,12 +14,21 @@ pub enum Outcome {
     Decode,
 }
 
+/// A transfer that moves.
+#[derive(Clone, Copy, Debug, PartialEq, Eq)]
+pub struct Transfer {
+    pub source: u32,
+    pub destination: u32,
+    pub total: u32,
+    pub moved: u32,
+}
+
 /// What the next step does.
 #[derive(Clone, Copy, Debug, PartialEq, Eq)]
 pub enum Phase {
     Idle,
     Fetch,
-    Move { source: u32, destination: u32, total: u32, moved: u32 },
+    Move(Transfer),
     Update(Outcome),
 }
 
@@ -38,17 +47,8 @@ pub enum Event {
 pub struct Engine {
     pub width: u32,
     pub beats: u32,
-    pub sg_mode: bool,
-    pub ioc_enable: bool,
-    pub err_enable: bool,
-    pub dma_int_err: bool,
-    pub dma_slv_err: bool,
-    pub dma_dec_err: bool,
-    pub sg_int_err: bool,
-    pub sg_slv_err: bool,
-    pub sg_dec_err: bool,
-    pub ioc_irq: bool,
-    pub err_irq: bool,
+    /// The error bits of CDMASR, in their places.
+    pub errors: u32,
     pub current: u32,
     pub tail: u32,
     pub next: u32,
@@ -57,6 +57,11 @@ pub struct Engine {
     pub da: u32,
     pub btt: u32,
     pub phase: Phase,
+    pub sg_mode: bool,
+    pub ioc_enable: bool,
+    pub err_enable: bool,
+    pub ioc_irq: bool,
+    pub err_irq: bool,
 }
 
 // Bit numbers of CDMACR.
@@ -84,6 +89,8 @@ const BTT_BITS: u32 = cut::LONGEST;
 const POINTER_BITS: u32 = !63;
 const DESCRIPTOR: usize = 32;
 const STATUS: u32 = 0x1c;
+/// Bytes of a full burst at width 4, beats 16.
+const FULL_BURST: usize = 64;
 
 #[inline]
 fn bit(word: u32, number: u32) -> bool {
@@ -95,6 +102,19 @@ fn word(bytes: &[u8; DESCRIPTOR], at: usize) -> u32 {
     u32::from_le_bytes([bytes[at], bytes[at + 1], bytes[at + 2], bytes[at + 3]])
 }
 
+/// Copies a burst that is good. Reading: "read before written" holds within one burst.
+#[inline]
+fn copy(memory: &mut [u8], from: u32, to: u32, bytes: u32) {
+    let (from, to, bytes) = (from as usize, to as usize, bytes as usize);
+    // The full burst of the usual settings has a fixed length, which needs no call.
+    if bytes == FULL_BURST {
+        let burst: [u8; FULL_BURST] = memory[from..from + FULL_BURST].try_into().expect("a burst");
+        memory[to..to + FULL_BURST].copy_from_slice(&burst);
+    } else {
+        memory.copy_within(from..from + bytes, to);
+    }
+}
+
 impl Engine {
     /// A fresh engine: simple mode, idle, all else 0.
     /// Reading: made with any settings; the first call on it answers 1 where they are off the lists.
@@ -102,17 +122,7 @@ impl Engine {
         Engine {
             width,
             beats,
-            sg_mode: false,
-            ioc_enable: false,
-            err_enable: false,
-            dma_int_err: false,
-            dma_slv_err: false,
-            dma_dec_err: false,
-            sg_int_err: false,
-            sg_slv_err: false,
-            sg_dec_err: false,
-            ioc_irq: false,
-            err_irq: false,
+            errors: 0,
             current: 0,
             tail: 0,
             next: 0,
@@ -121,26 +131,27 @@ impl Engine {
             da: 0,
             btt: 0,
             phase: Phase::Idle,
+            sg_mode: false,
+            ioc_enable: false,
+            err_enable: false,
+            ioc_irq: false,
+            err_irq: false,
         }
     }
 
     /// Reading: an error bit is CDMASR 4, 5, 6, 8, 9 or 10; Err_Irq is none.
     #[inline]
-    fn in_error(&self) -> bool {
-        self.dma_int_err
-            | self.dma_slv_err
-            | self.dma_dec_err
-            | self.sg_int_err
-            | self.sg_slv_err
-            | self.sg_dec_err
+    pub fn in_error(&self) -> bool {
+        self.errors != 0
     }
 
     /// Reading: busy is phase not idle.
     #[inline]
-    pub(crate) fn idle(&self) -> bool {
+    pub fn idle(&self) -> bool {
         matches!(self.phase, Phase::Idle)
     }
 
+    #[inline]
     pub fn well_formed(&self) -> bool {
         if (self.current | self.tail | self.next | self.held_next) & !POINTER_BITS != 0 {
             return false;
@@ -154,7 +165,7 @@ impl Engine {
         match self.phase {
             Phase::Idle => true,
             Phase::Fetch | Phase::Update(_) => self.sg_mode,
-            Phase::Move { source, destination, total, moved } => {
+            Phase::Move(Transfer { source, destination, total, moved }) => {
                 moved < total
                     && total <= cut::LONGEST
                     && source.checked_add(moved).is_some()
@@ -207,12 +218,7 @@ impl Engine {
         THRESHOLD
             | 1 << SG_INCLUDED
             | u32::from(self.idle()) << IDLE
-            | u32::from(self.dma_int_err) << DMA_INT_ERR
-            | u32::from(self.dma_slv_err) << DMA_SLV_ERR
-            | u32::from(self.dma_dec_err) << DMA_DEC_ERR
-            | u32::from(self.sg_int_err) << SG_INT_ERR
-            | u32::from(self.sg_slv_err) << SG_SLV_ERR
-            | u32::from(self.sg_dec_err) << SG_DEC_ERR
+            | self.errors
             | u32::from(self.ioc_irq) << IOC
             | u32::from(self.err_irq) << ERR
     }
@@ -313,12 +319,8 @@ impl Engine {
                 if self.btt == 0 {
                     self.halt(DMA_INT_ERR);
                 } else {
-                    self.phase = Phase::Move {
-                        source: self.sa,
-                        destination: self.da,
-                        total: self.btt,
-                        moved: 0,
-                    };
+                    let (source, destination, total) = (self.sa, self.da, self.btt);
+                    self.phase = Phase::Move(Transfer { source, destination, total, moved: 0 });
                 }
             }
         }
@@ -327,15 +329,7 @@ impl Engine {
 
     /// Idle and Err_Irq set with one error bit, current kept.
     fn halt(&mut self, bit: u32) {
-        let error = match bit {
-            DMA_INT_ERR => &mut self.dma_int_err,
-            DMA_SLV_ERR => &mut self.dma_slv_err,
-            DMA_DEC_ERR => &mut self.dma_dec_err,
-            SG_INT_ERR => &mut self.sg_int_err,
-            SG_SLV_ERR => &mut self.sg_slv_err,
-            _ => &mut self.sg_dec_err,
-        };
-        *error = true;
+        self.errors |= 1 << bit;
         self.err_irq = true;
         self.phase = Phase::Idle;
     }
@@ -353,16 +347,82 @@ impl Engine {
     /// Steps until idle or `n` taken: the answer and the steps taken.
     /// Reading: a run judges its refusals once, at its start.
     pub fn run(&mut self, memory: &mut [u8], windows: &[Window], n: u16) -> (u32, u16) {
+        self.run_telling(memory, windows, n, |_| ())
+    }
+
+    /// A run that tells the event of each step.
+    #[inline]
+    pub(crate) fn run_telling(
+        &mut self,
+        memory: &mut [u8],
+        windows: &[Window],
+        n: u16,
+        mut tell: impl FnMut(Event),
+    ) -> (u32, u16) {
         let answer = self.admit_steps(memory.len(), windows.len());
         if answer != answer::DONE {
             return (answer, 0);
         }
         let mut steps = 0;
         while steps < n && !self.idle() {
-            self.advance(memory, windows);
+            // A transfer takes all its good bursts at once, and leaves one that fails to a step.
+            if let Phase::Move(transfer) = self.phase {
+                let taken = self.good_bursts(memory, windows, transfer, n - steps, &mut tell);
+                if taken > 0 {
+                    steps += taken;
+                    continue;
+                }
+            }
+            tell(self.advance(memory, windows));
             steps += 1;
         }
         (answer::DONE, steps)
+    }
+
+    /// Moves bursts up to the first that fails, the transfer's end or `most` of them, and gives
+    /// their number. How far source and destination are good is asked once, since a burst changes
+    /// bytes and not how they answer.
+    #[inline]
+    fn good_bursts(
+        &mut self,
+        memory: &mut [u8],
+        windows: &[Window],
+        transfer: Transfer,
+        most: u16,
+        mut tell: impl FnMut(Event),
+    ) -> u16 {
+        let Transfer { source, destination, total, mut moved } = transfer;
+        let (width, beats, length) = (self.width, self.beats, memory.len());
+        let left = total - moved;
+        let good = memory::good_bytes(length, windows, source + moved, left);
+        let good = moved + memory::good_bytes(length, windows, destination + moved, good);
+        let mut steps = 0;
+        while steps < most && moved < good {
+            let to = destination + moved;
+            let bytes = cut::first_burst(width, beats, to, total - moved);
+            if bytes > good - moved {
+                break;
+            }
+            copy(memory, source + moved, to, bytes);
+            moved += bytes;
+            steps += 1;
+            tell(Event::Move { start: to, bytes });
+        }
+        self.phase = self.moved_to(Transfer { moved, ..transfer });
+        steps
+    }
+
+    /// The phase after good bursts. Chain mode goes to update after the last one, simple mode ends.
+    #[inline]
+    fn moved_to(&mut self, transfer: Transfer) -> Phase {
+        if transfer.moved < transfer.total {
+            Phase::Move(transfer)
+        } else if self.sg_mode {
+            Phase::Update(Outcome::Complete)
+        } else {
+            self.ioc_irq = true;
+            Phase::Idle
+        }
     }
 
     /// (IOC_Irq and its enable) or (Err_Irq and its enable).
@@ -376,9 +436,7 @@ impl Engine {
         match self.phase {
             Phase::Idle => Event::None,
             Phase::Fetch => self.fetch(memory, windows),
-            Phase::Move { source, destination, total, moved } => {
-                self.burst(memory, windows, source, destination, total, moved)
-            }
+            Phase::Move(transfer) => self.burst(memory, windows, transfer),
             Phase::Update(outcome) => self.update(memory, windows, outcome),
         }
     }
@@ -386,7 +444,7 @@ impl Engine {
     /// Fetch. Reading: tests in the order decode, slave, stale, zero count.
     fn fetch(&mut self, memory: &[u8], windows: &[Window]) -> Event {
         let current = self.current;
-        let failed = match memory::verdict(memory.len(), windows, current, DESCRIPTOR as u32) {
+        let failed = match memory::verdict(memory.len(), windows, [current], DESCRIPTOR as u32) {
             Verdict::Decode => SG_DEC_ERR,
             Verdict::Slave => SG_SLV_ERR,
             Verdict::Okay => {
@@ -414,47 +472,24 @@ impl Engine {
         self.phase = if total == 0 {
             Phase::Update(Outcome::Internal)
         } else {
-            Phase::Move {
-                source: word(descriptor, 0x08),
-                destination: word(descriptor, 0x10),
-                total,
-                moved: 0,
-            }
+            let (source, destination) = (word(descriptor, 0x08), word(descriptor, 0x10));
+            Phase::Move(Transfer { source, destination, total, moved: 0 })
         };
         Event::Fetch { current: self.current }
     }
 
     /// Move of one burst. Reading: the cut follows the destination only, and a transfer whose
     /// destination + total passes 2^32 has its burst at the top end by decode error.
-    fn burst(
-        &mut self,
-        memory: &mut [u8],
-        windows: &[Window],
-        source: u32,
-        destination: u32,
-        total: u32,
-        moved: u32,
-    ) -> Event {
+    #[inline]
+    fn burst(&mut self, memory: &mut [u8], windows: &[Window], transfer: Transfer) -> Event {
+        let Transfer { source, destination, total, moved } = transfer;
         let from = source + moved;
         let to = destination + moved;
         let bytes = cut::first_burst(self.width, self.beats, to, total - moved);
-        let length = memory.len();
-        let verdict = memory::verdict(length, windows, from, bytes)
-            .max(memory::verdict(length, windows, to, bytes));
-        let (outcome, failed) = match verdict {
+        let (outcome, failed) = match memory::verdict(memory.len(), windows, [from, to], bytes) {
             Verdict::Okay => {
-                // Reading: "read before written" holds within one burst.
-                let at = from as usize;
-                memory.copy_within(at..at + bytes as usize, to as usize);
-                let moved = moved + bytes;
-                if moved < total {
-                    self.phase = Phase::Move { source, destination, total, moved };
-                } else if self.sg_mode {
-                    self.phase = Phase::Update(Outcome::Complete);
-                } else {
-                    self.phase = Phase::Idle;
-                    self.ioc_irq = true;
-                }
+                copy(memory, from, to, bytes);
+                self.phase = self.moved_to(Transfer { moved: moved + bytes, ..transfer });
                 return Event::Move { start: to, bytes };
             }
             Verdict::Slave => (Outcome::Slave, DMA_SLV_ERR),
@@ -474,7 +509,7 @@ impl Engine {
     fn update(&mut self, memory: &mut [u8], windows: &[Window], outcome: Outcome) -> Event {
         let current = self.current;
         let status = current + STATUS; // current is a multiple of 64
-        let failed = match memory::verdict(memory.len(), windows, status, 4) {
+        let failed = match memory::verdict(memory.len(), windows, [status], 4) {
             Verdict::Okay => None,
             Verdict::Slave => Some(SG_SLV_ERR),
             Verdict::Decode => Some(SG_DEC_ERR),

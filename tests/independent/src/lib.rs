@@ -3,6 +3,8 @@
 pub mod answer;
 pub mod cut;
 pub mod engine;
+pub mod listing;
 pub mod memory;
 pub mod monitor;
+pub mod record;
 pub mod trace;

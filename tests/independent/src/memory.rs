@@ -11,33 +11,61 @@ pub const MOST_WINDOWS: usize = 16;
 /// A sick window: start and length.
 pub type Window = (u32, u32);
 
-/// The answer of a group of bytes. The order is that of weight, so that the greater of two
-/// verdicts is the verdict of both groups together.
-#[derive(Clone, Copy, Debug, PartialEq, Eq, PartialOrd, Ord)]
+/// The answer of a group of bytes.
+#[derive(Clone, Copy, Debug, PartialEq, Eq)]
 pub enum Verdict {
     Okay,
     Slave,
     Decode,
 }
 
-/// Judges the `count` bytes from `start` in a memory of `length` bytes, window by window.
-/// Reading: ends of groups and of windows are reckoned without wrapping at 2^32.
+/// The last byte of a window that is not empty.
+/// Reading: it is reckoned without wrapping; past 2^32 there is no byte, so it may stop there.
 #[inline]
-pub fn verdict(length: usize, windows: &[Window], start: u32, count: u32) -> Verdict {
+fn last_of((start, length): Window) -> u32 {
+    start.saturating_add(length.wrapping_sub(1))
+}
+
+/// Judges groups of `count` bytes together, which start at `starts`, in a memory of `length` bytes.
+#[inline]
+pub fn verdict<const GROUPS: usize>(
+    length: usize,
+    windows: &[Window],
+    starts: [u32; GROUPS],
+    count: u32,
+) -> Verdict {
     if count == 0 {
         return Verdict::Okay;
     }
-    let from = u64::from(start);
-    let to = from + u64::from(count);
-    if to > length as u64 {
+    // Reading: the end of a group is reckoned without wrapping.
+    if starts.iter().any(|&start| u64::from(start) + u64::from(count) > length as u64) {
         return Verdict::Decode;
     }
-    // The whole group is memory now, so a shared byte is a byte of memory inside a window.
-    for &(sick, size) in windows {
-        let sick = u64::from(sick);
-        if size != 0 && sick < to && from < sick + u64::from(size) {
-            return Verdict::Slave;
+    // The groups are memory now, so a shared byte is a byte of memory inside a window. All windows
+    // are looked at without a branch: most steps are good, and none of them ends the search.
+    let mut sick = false;
+    for &window in windows {
+        for start in starts {
+            let meets = (window.0 <= start + (count - 1)) & (start <= last_of(window));
+            sick |= (window.1 != 0) & meets;
         }
     }
-    Verdict::Okay
+    if sick {
+        Verdict::Slave
+    } else {
+        Verdict::Okay
+    }
+}
+
+/// How many of the `most` bytes from `start` on answer OKAY, up to the first that does not.
+#[inline]
+pub fn good_bytes(length: usize, windows: &[Window], start: u32, most: u32) -> u32 {
+    let inside = (length as u64).saturating_sub(u64::from(start));
+    let mut good = inside.min(u64::from(most)) as u32;
+    for &window in windows {
+        if window.1 != 0 && start <= last_of(window) {
+            good = good.min(window.0.saturating_sub(start));
+        }
+    }
+    good
 }

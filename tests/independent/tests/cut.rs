@@ -1,11 +1,10 @@
 // Tests of the cutter: document 01, "Cutting a transfer", P1 to P8, and answers 1, 7 and 8.
 // The plan against the brute plan, over all settings.
 
-mod common;
-
-use common::{Random, BEATS, WIDTHS};
 use independent::answer;
 use independent::cut::{brute_plan, plan, plan_bytes, LONGEST};
+use shared::random::Random;
+use shared::settings::{BEATS, WIDTHS};
 
 const MARK: u32 = 0xa5a5_5a5a;
 
@@ -189,7 +188,7 @@ fn plan_is_brute_plan_for_every_small_case() {
 
 #[test]
 fn plan_is_brute_plan_at_random() {
-    let mut random = Random::new(1);
+    let mut random = Random::new(1, 0);
     for _ in 0..20_000 {
         let (width, beats) = (random.pick(&WIDTHS), random.pick(&BEATS));
         let count = 1 + random.below(10_000);
@@ -204,7 +203,7 @@ fn plan_is_brute_plan_at_random() {
 
 #[test]
 fn long_plans_are_legal_greedy_and_whole() {
-    let mut random = Random::new(2);
+    let mut random = Random::new(2, 0);
     let mut places = vec![0; 3 << 20];
     for width in WIDTHS {
         for beats in BEATS {

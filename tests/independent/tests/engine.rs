@@ -3,11 +3,13 @@
 
 mod common;
 
-use common::{descriptor, put, Random, BEATS, WIDTHS};
+use common::{descriptor, put};
 use independent::answer;
 use independent::cut::brute_plan;
-use independent::engine::{Engine, Event, Outcome, Phase};
+use independent::engine::{Engine, Event, Outcome, Phase, Transfer};
 use independent::memory::Window;
+use shared::random::Random;
+use shared::settings::{BEATS, WIDTHS};
 
 const CONTROL: u32 = 0x00;
 const STATUS: u32 = 0x04;
@@ -244,7 +246,7 @@ fn pointers_drop_six_bits() {
 fn btt_keeps_23_bits() {
     let mut engine = simple(5, 6, 0xff80_0001);
     assert_eq!(engine.read(BTT), (0, 1));
-    let moving = Phase::Move { source: 5, destination: 6, total: 1, moved: 0 };
+    let moving = Phase::Move(Transfer { source: 5, destination: 6, total: 1, moved: 0 });
     assert_eq!(engine.phase, moving);
     assert_eq!(status(&engine), 0x0001_0008);
     for offset in [SA, DA, BTT, CURRENT, TAIL] {
@@ -264,7 +266,7 @@ fn btt_keeps_23_bits() {
 /// Every register write's answer, by mode, phase and error, in the text's words.
 #[test]
 fn write_answers_over_all_conditions() {
-    let moving = Phase::Move { source: 0, destination: 64, total: 9, moved: 3 };
+    let moving = Phase::Move(Transfer { source: 0, destination: 64, total: 9, moved: 3 });
     let phases = [
         Phase::Idle,
         Phase::Fetch,
@@ -282,7 +284,7 @@ fn write_answers_over_all_conditions() {
                 let busy = phase != Phase::Idle;
                 let in_error = error > 0;
                 let well = !(in_error && busy)
-                    && (sg_mode || matches!(phase, Phase::Idle | Phase::Move { .. }));
+                    && (sg_mode || matches!(phase, Phase::Idle | Phase::Move(_)));
                 assert_eq!(engine.well_formed(), well);
                 for offset in 0..=44 {
                     for value in [0, 4, 8, 64, 0x0080_0000, u32::MAX] {
@@ -322,15 +324,10 @@ fn write_answers_over_all_conditions() {
     }
 }
 
+/// Sets the first error bit, the second and so on; none for a number beyond them, or for 0.
 fn set_error(engine: &mut Engine, error: u32) {
-    match error {
-        1 => engine.dma_int_err = true,
-        2 => engine.dma_slv_err = true,
-        3 => engine.dma_dec_err = true,
-        4 => engine.sg_int_err = true,
-        5 => engine.sg_slv_err = true,
-        6 => engine.sg_dec_err = true,
-        _ => {}
+    if let Some(bit) = [4, 5, 6, 8, 9, 10].get((error as usize).wrapping_sub(1)) {
+        engine.errors = 1 << bit;
     }
 }
 
@@ -363,8 +360,9 @@ fn interrupt_line_over_all_bits() {
 // ---- Well formed, and the order of refusals ----
 
 fn ill_formed() -> Vec<Engine> {
-    let moving =
-        |source, destination, total, moved| Phase::Move { source, destination, total, moved };
+    let moving = |source, destination, total, moved| {
+        Phase::Move(Transfer { source, destination, total, moved })
+    };
     vec![
         Engine { current: 1, ..fresh() },
         Engine { tail: 32, ..fresh() },
@@ -379,8 +377,8 @@ fn ill_formed() -> Vec<Engine> {
         Engine { phase: moving(0, 0, 8_388_608, 0), ..fresh() },
         Engine { phase: moving(u32::MAX, 0, 5, 1), ..fresh() },
         Engine { phase: moving(0, u32::MAX, 5, 1), ..fresh() },
-        Engine { sg_mode: true, phase: Phase::Fetch, sg_dec_err: true, ..fresh() },
-        Engine { phase: moving(0, 0, 5, 0), dma_int_err: true, ..fresh() },
+        Engine { sg_mode: true, phase: Phase::Fetch, errors: 1 << 10, ..fresh() },
+        Engine { phase: moving(0, 0, 5, 0), errors: 1 << 4, ..fresh() },
     ]
 }
 
@@ -389,8 +387,9 @@ fn well_formed_at_its_edges() {
     for engine in ill_formed() {
         assert!(!engine.well_formed(), "{engine:?}");
     }
-    let moving =
-        |source, destination, total, moved| Phase::Move { source, destination, total, moved };
+    let moving = |source, destination, total, moved| {
+        Phase::Move(Transfer { source, destination, total, moved })
+    };
     for engine in [
         Engine { current: 64, tail: 128, next: 0xffff_ffc0, held_next: 192, ..fresh() },
         Engine { btt: 8_388_607, ..fresh() },
@@ -398,7 +397,7 @@ fn well_formed_at_its_edges() {
         Engine { sg_mode: true, phase: Phase::Update(Outcome::Slave), ..fresh() },
         Engine { sg_mode: true, phase: moving(u32::MAX, u32::MAX, 8_388_607, 0), ..fresh() },
         Engine { phase: moving(u32::MAX - 4, u32::MAX - 4, 5, 4), ..fresh() },
-        Engine { dma_int_err: true, sg_dec_err: true, ..fresh() },
+        Engine { errors: 1 << 4 | 1 << 10, ..fresh() },
         Engine { width: 3, beats: 0, ..fresh() },
     ] {
         assert!(engine.well_formed(), "{engine:?}");
@@ -475,7 +474,7 @@ fn order_of_refusals_of_accesses() {
         assert_eq!(engine, ill);
     }
     // 3 before 5, and 5 before 4: in error with the wrong mode.
-    let mut engine = Engine { sg_dec_err: true, ..fresh() };
+    let mut engine = Engine { errors: 1 << 10, ..fresh() };
     assert_eq!(engine.write(41, 0), answer::OFFSET);
     assert_eq!(engine.write(TAIL, 0), answer::ERROR);
     engine.sg_mode = true;
@@ -555,7 +554,8 @@ fn fetch_takes_the_fields() {
     assert_eq!(engine.step(&mut memory, &[]), (0, Event::Fetch { current: 64 }));
     assert_eq!(engine.held_next, 0x1234_56c0);
     assert_eq!(engine.next, 64);
-    let moving = Phase::Move { source: 0xdead_beef, destination: 0xcafe_f00d, total: 7, moved: 0 };
+    let moving =
+        Phase::Move(Transfer { source: 0xdead_beef, destination: 0xcafe_f00d, total: 7, moved: 0 });
     assert_eq!(engine.phase, moving);
     assert_eq!(status(&engine), 0x0001_0008);
 }
@@ -764,15 +764,8 @@ fn group(start: u64, count: u64) -> Vec<u64> {
 /// Halt with the CDMASR bit of the number given.
 fn halted(engine: &Engine, bit: u32) -> Engine {
     let mut after = engine.clone();
-    match bit {
-        4 => after.dma_int_err = true,
-        5 => after.dma_slv_err = true,
-        6 => after.dma_dec_err = true,
-        8 => after.sg_int_err = true,
-        9 => after.sg_slv_err = true,
-        10 => after.sg_dec_err = true,
-        _ => panic!(),
-    }
+    assert!([4, 5, 6, 8, 9, 10].contains(&bit));
+    after.errors |= 1 << bit;
     after.err_irq = true;
     after.phase = Phase::Idle;
     after
@@ -798,16 +791,16 @@ fn slow_step(engine: &Engine, memory: &[u8], windows: &[Window]) -> (Engine, Vec
             let total = word(memory, current + 0x18) % 0x80_0000;
             after.phase = match total {
                 0 => Phase::Update(Outcome::Internal),
-                _ => Phase::Move {
+                _ => Phase::Move(Transfer {
                     source: word(memory, current + 0x08),
                     destination: word(memory, current + 0x10),
                     total,
                     moved: 0,
-                },
+                }),
             };
             (after, same, Event::Fetch { current })
         }
-        Phase::Move { source, destination, total, moved } => {
+        Phase::Move(Transfer { source, destination, total, moved }) => {
             let start = destination + moved;
             // A burst never leaves its page: a cut of two pages is enough.
             let bytes =
@@ -832,7 +825,7 @@ fn slow_step(engine: &Engine, memory: &[u8], windows: &[Window]) -> (Engine, Vec
             }
             let mut after = engine.clone();
             after.phase = if moved + bytes < total {
-                Phase::Move { source, destination, total, moved: moved + bytes }
+                Phase::Move(Transfer { source, destination, total, moved: moved + bytes })
             } else if engine.sg_mode {
                 Phase::Update(Outcome::Complete)
             } else {
@@ -885,13 +878,13 @@ fn address(random: &mut Random, near: u32) -> u32 {
 
 fn some_engine(random: &mut Random, near: u32) -> Engine {
     let mut engine = Engine::fresh(random.pick(&WIDTHS), random.pick(&BEATS));
-    engine.sg_mode = random.chance(2);
-    engine.ioc_irq = random.chance(2);
-    engine.err_irq = random.chance(2);
-    engine.ioc_enable = random.chance(2);
-    engine.err_enable = random.chance(2);
+    engine.sg_mode = random.one_in(2);
+    engine.ioc_irq = random.one_in(2);
+    engine.err_irq = random.one_in(2);
+    engine.ioc_enable = random.one_in(2);
+    engine.err_enable = random.one_in(2);
     engine.current = address(random, near) & !63;
-    engine.tail = if random.chance(2) { engine.current } else { address(random, near) & !63 };
+    engine.tail = if random.one_in(2) { engine.current } else { address(random, near) & !63 };
     engine.next = address(random, near) & !63;
     engine.held_next = address(random, near) & !63;
     engine.sa = random.u32();
@@ -903,16 +896,16 @@ fn some_engine(random: &mut Random, near: u32) -> Engine {
         3..=4 => Phase::Update(random.pick(&outcomes)),
         _ => {
             let total =
-                if random.chance(2) { 1 + random.below(300) } else { 1 + random.below(0x7f_ffff) };
-            Phase::Move {
+                if random.one_in(2) { 1 + random.below(300) } else { 1 + random.below(0x7f_ffff) };
+            Phase::Move(Transfer {
                 source: address(random, near),
                 destination: address(random, near),
                 total,
-                moved: if random.chance(2) { 0 } else { random.below(total.min(400)) },
-            }
+                moved: if random.one_in(2) { 0 } else { random.below(total.min(400)) },
+            })
         }
     };
-    if random.chance(15) {
+    if random.one_in(15) {
         set_error(&mut engine, 1 + random.below(6));
     }
     engine
@@ -920,28 +913,28 @@ fn some_engine(random: &mut Random, near: u32) -> Engine {
 
 #[test]
 fn steps_are_those_of_the_slow_model() {
-    let mut random = Random::new(5);
+    let mut random = Random::new(5, 0);
     let mut kinds = [0; 7];
     let mut taken = 0;
     while taken < 60_000 {
-        let length = if random.chance(3) { 4096 + random.below(5000) } else { random.below(1200) };
+        let length = if random.one_in(3) { 4096 + random.below(5000) } else { random.below(1200) };
         let mut engine = some_engine(&mut random, length);
         let mut memory: Vec<u8> = (0..length).map(|_| random.u32() as u8).collect();
         for at in (0..length.saturating_sub(31)).step_by(64) {
-            if random.chance(2) {
+            if random.one_in(2) {
                 let bytes = descriptor(
                     address(&mut random, length),
                     address(&mut random, length),
                     address(&mut random, length),
-                    if random.chance(4) { 0xff80_0000 } else { random.below(400) },
-                    if random.chance(4) { random.u32() } else { 0 },
+                    if random.one_in(4) { 0xff80_0000 } else { random.below(400) },
+                    if random.one_in(4) { random.u32() } else { 0 },
                 );
                 put(&mut memory, at, &bytes);
             }
         }
         let mut windows = Vec::new();
         for _ in 0..random.pick(&[0, 0, 1, 2, 16]) {
-            let size = if random.chance(20) { random.u32() } else { random.below(30) };
+            let size = if random.one_in(20) { random.u32() } else { random.below(30) };
             windows.push((address(&mut random, length), size));
         }
         let well = engine.well_formed();
@@ -978,7 +971,7 @@ fn steps_are_those_of_the_slow_model() {
 
 #[test]
 fn runs_are_their_steps() {
-    let mut random = Random::new(6);
+    let mut random = Random::new(6, 0);
     for _ in 0..4000 {
         let length = 1500;
         let mut engine = some_engine(&mut random, length);
@@ -987,13 +980,17 @@ fn runs_are_their_steps() {
         }
         let mut memory: Vec<u8> = (0..length).map(|_| random.below(3) as u8).collect();
         let (mut other, mut lent) = (engine.clone(), memory.clone());
+        // Windows near what is moved, mostly beside it.
+        let windows: Vec<Window> = (0..random.pick(&[0, 0, 1, 3, 16]))
+            .map(|_| (random.below(2 * length), random.below(4)))
+            .collect();
         let n = random.below(12) as u16;
         let mut steps = 0;
         while steps < n && other.phase != Phase::Idle {
-            other.step(&mut lent, &[]);
+            other.step(&mut lent, &windows);
             steps += 1;
         }
-        assert_eq!(engine.run(&mut memory, &[], n), (0, steps));
+        assert_eq!(engine.run(&mut memory, &windows, n), (0, steps));
         assert_eq!((engine, memory), (other, lent));
     }
 }

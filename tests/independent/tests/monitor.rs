@@ -3,26 +3,11 @@
 
 mod common;
 
-use common::{Random, BEATS, WIDTHS};
+use common::{QUIET, VALID};
 use independent::answer;
 use independent::monitor::{Clock, Monitor};
-
-const QUIET: Clock = Clock {
-    reset_high: true,
-    valid: false,
-    ready: false,
-    address: 0,
-    length: 0,
-    size: 0,
-    burst: 0,
-    cache: 0,
-    prot: 0,
-    qos: 0,
-    region: 0,
-    id: 0,
-};
-
-const VALID: Clock = Clock { valid: true, ..QUIET };
+use shared::random::Random;
+use shared::settings::{BEATS, WIDTHS};
 
 fn set(numbers: &[u32]) -> u64 {
     numbers.iter().fold(0, |flags, number| flags | 1 << number)
@@ -295,15 +280,15 @@ fn answer_1_over_all_settings() {
 
 #[test]
 fn random_clocks_keep_to_the_flags_there_are() {
-    let mut random = Random::new(4);
+    let mut random = Random::new(4, 0);
     let mut monitor = Monitor::fresh();
     let there_are = set(&[37, 38, 39, 41, 42, 43, 44, 45, 46, 47, 48, 49, 50, 52, 53, 54, 55, 56]);
     let mut seen = 0;
     for _ in 0..200_000 {
         let clock = Clock {
-            reset_high: !random.chance(20),
-            valid: !random.chance(3),
-            ready: random.chance(2),
+            reset_high: !random.one_in(20),
+            valid: !random.one_in(3),
+            ready: random.one_in(2),
             address: random.u32(),
             length: random.below(258),
             size: random.below(9),

@@ -3,28 +3,17 @@
 
 mod common;
 
-use common::{descriptor, Random, Trace};
+use common::{descriptor, Trace, VALID};
 use independent::answer;
 use independent::engine::{Engine, Event, Phase};
 use independent::monitor::{Clock, Monitor};
-use independent::trace::replay;
+use independent::record::Record;
+use independent::trace::{replay, replay_before, replay_stream, Observer, Replay};
+use shared::random::Random;
+use shared::settings::{BEATS, WIDTHS};
+use std::io::{self, Read, Write};
 
 const HEADER: &str = "seq event first second\n";
-
-const VALID: Clock = Clock {
-    reset_high: true,
-    valid: true,
-    ready: false,
-    address: 0,
-    length: 0,
-    size: 0,
-    burst: 0,
-    cache: 0,
-    prot: 0,
-    qos: 0,
-    region: 0,
-    id: 0,
-};
 
 /// The listing without its header, and whether it is sound.
 fn listing(trace: &Trace) -> (String, bool) {
@@ -367,8 +356,27 @@ fn numbers_of_every_length() {
 }
 
 #[test]
+fn numbers_that_follow_each_other_and_any_others() {
+    let mut random = Random::new(11, 0);
+    let mut trace = Trace::new();
+    let mut expected = String::new();
+    // Each sequence number is one above the last over all carries up to five digits, then some
+    // skip; and the values have any number of digits.
+    let mut sequence = 0;
+    while sequence < 4_000_000_000 {
+        let skip = if sequence < 12_000 { 1 } else { random.pick(&[1, 1, 2, 99_999, 1_000_003]) };
+        sequence += skip;
+        let value = random.u32() >> random.below(32);
+        trace = trace.wr(sequence, 24, value).rd(sequence + 1, 24);
+        sequence += 1;
+        expected += &format!("{} write 24 0\n{sequence} read 24 {value}\n", sequence - 1);
+    }
+    good(&trace, &expected);
+}
+
+#[test]
 fn random_bytes_never_panic() {
-    let mut random = Random::new(7);
+    let mut random = Random::new(7, 0);
     for _ in 0..6000 {
         let length = random.below(200);
         let bytes: Vec<u8> = (0..length).map(|_| random.u32() as u8).collect();
@@ -381,14 +389,14 @@ const MARKS: [&[u8]; 7] = [b"CF", b"MM", b"SW", b"WR", b"RD", b"ST", b"AR"];
 
 #[test]
 fn random_bytes_behind_good_marks_never_panic() {
-    let mut random = Random::new(8);
+    let mut random = Random::new(8, 0);
     for _ in 0..6000 {
         let mut bytes = Vec::new();
         for n in 1..=random.below(20) {
             bytes.extend_from_slice(random.pick(&MARKS));
             bytes.extend_from_slice(&n.to_le_bytes());
             for _ in 0..random.pick(&[2, 2, 4, 6, 6, 8, 16, 20]) {
-                let byte = if random.chance(2) { random.below(9) } else { random.u32() };
+                let byte = if random.one_in(2) { random.below(9) } else { random.u32() };
                 bytes.push(byte as u8);
             }
         }
@@ -400,10 +408,10 @@ fn random_bytes_behind_good_marks_never_panic() {
 fn some_trace(random: &mut Random) -> Trace {
     let mut trace = Trace::new();
     let mut sequence = 0;
-    if random.chance(2) {
+    if random.one_in(2) {
         sequence += 1;
-        let width = random.pick(&common::WIDTHS) as u16;
-        trace = trace.cf(sequence, width, random.pick(&common::BEATS) as u16);
+        let width = random.pick(&WIDTHS) as u16;
+        trace = trace.cf(sequence, width, random.pick(&BEATS) as u16);
     }
     let mut windows = 0;
     for _ in 0..random.below(60) {
@@ -411,12 +419,12 @@ fn some_trace(random: &mut Random) -> Trace {
         trace = match random.below(16) {
             0..=3 => {
                 let at = random.below(8) * 64;
-                let stale = if random.chance(6) { 1 << 31 } else { 0 };
+                let stale = if random.one_in(6) { 1 << 31 } else { 0 };
                 let bytes = descriptor(
                     random.below(8) * 64,
                     random.below(5000),
-                    if random.chance(8) { random.u32() } else { random.below(33000) },
-                    if random.chance(8) { 0 } else { random.below(300) },
+                    if random.one_in(8) { random.u32() } else { random.below(33000) },
+                    if random.one_in(8) { 0 } else { random.below(300) },
                     stale,
                 );
                 trace.mm(sequence, at, &bytes)
@@ -437,7 +445,7 @@ fn some_trace(random: &mut Random) -> Trace {
             14 => {
                 // From a reset into a chain, or now and then into a simple move.
                 sequence += 4;
-                if random.chance(3) {
+                if random.one_in(3) {
                     trace
                         .wr(sequence - 4, 0, 4)
                         .wr(sequence - 3, 24, random.below(33000))
@@ -455,9 +463,9 @@ fn some_trace(random: &mut Random) -> Trace {
             }
             _ => {
                 let clock = Clock {
-                    reset_high: !random.chance(9),
-                    valid: !random.chance(3),
-                    ready: random.chance(2),
+                    reset_high: !random.one_in(9),
+                    valid: !random.one_in(3),
+                    ready: random.one_in(2),
                     address: random.below(9000),
                     length: random.below(40),
                     size: random.below(4),
@@ -569,7 +577,7 @@ fn slow_listing(bytes: &[u8]) -> String {
 
 #[test]
 fn good_traces_list_as_the_slow_listing() {
-    let mut random = Random::new(9);
+    let mut random = Random::new(9, 0);
     let words = [
         "set", "memory", "window", "write", "read", "noread", "fetch", "move", "fault", "update",
         "halt", "stop", "bus",
@@ -591,7 +599,7 @@ fn good_traces_list_as_the_slow_listing() {
 
 #[test]
 fn damaged_traces_never_panic_and_share_their_beginning() {
-    let mut random = Random::new(10);
+    let mut random = Random::new(10, 0);
     let mut answers = [0; 14];
     for _ in 0..6000 {
         let whole = some_trace(&mut random);
@@ -626,5 +634,130 @@ fn damaged_traces_never_panic_and_share_their_beginning() {
     for number in [answer::SETTINGS, answer::RECORD, answer::SEQUENCE, answer::PLACE, answer::FIELD]
     {
         assert!(answers[number as usize] > 0, "{answers:?}");
+    }
+}
+
+/// Gives its bytes in pieces of any length, and is interrupted now and then.
+struct Pieces<'a> {
+    rest: &'a [u8],
+    most: u32,
+    random: Random,
+}
+
+impl Read for Pieces<'_> {
+    fn read(&mut self, room: &mut [u8]) -> io::Result<usize> {
+        if self.random.one_in(10) {
+            return Err(io::ErrorKind::Interrupted.into());
+        }
+        let count =
+            (1 + self.random.below(self.most) as usize).min(self.rest.len()).min(room.len());
+        room[..count].copy_from_slice(self.rest.split_off(..count).unwrap());
+        Ok(count)
+    }
+}
+
+#[test]
+fn a_stream_lists_as_the_whole_trace() {
+    let mut random = Random::new(12, 0);
+    for round in 0..600 {
+        // Longer than what is read at once, and sometimes bad at the end.
+        let mut trace = Trace::new();
+        for _ in 0..if round % 20 == 0 { 300 } else { 1 } {
+            let last = listing(&trace)
+                .0
+                .lines()
+                .last()
+                .map_or(0, |line| line.split(' ').next().unwrap().parse().unwrap());
+            trace =
+                trace.mm(last + 1, random.below(31_000), &vec![7; 1 + random.below(1024) as usize]);
+        }
+        if random.one_in(3) {
+            trace = trace.raw(&some_trace(&mut random).0);
+        }
+        let mut whole = Vec::new();
+        let sound = replay(&trace.0, &mut whole);
+        let most = random.pick(&[1, 3, 40, 3000, 200_000]);
+        let pieces = Pieces { rest: &trace.0, most, random: Random::new(round, 1) };
+        let mut streamed = Vec::new();
+        assert_eq!(replay_stream(pieces, &mut streamed).unwrap(), sound);
+        assert_eq!(streamed, whole);
+    }
+}
+
+/// Takes nothing.
+struct Full;
+
+impl Write for Full {
+    fn write(&mut self, _: &[u8]) -> io::Result<usize> {
+        Err(io::ErrorKind::StorageFull.into())
+    }
+
+    fn flush(&mut self) -> io::Result<()> {
+        Ok(())
+    }
+}
+
+#[test]
+fn a_listing_that_cannot_be_written_is_an_error() {
+    let trace = Trace::new().rd(1, 4);
+    let error = replay_stream(&trace.0[..], Full).unwrap_err();
+    assert_eq!(error.kind(), io::ErrorKind::StorageFull);
+    // A trace without an end too: the replay stops at what it cannot write.
+    let endless = io::repeat(0).chain(&trace.0[..]);
+    assert!(replay_stream(endless, Full).is_err());
+}
+
+/// Counts what it is told, and that steps come in pairs.
+#[derive(Default)]
+struct Looker {
+    lines: usize,
+    records: usize,
+    open: bool,
+    refused: u32,
+}
+
+impl Observer for Looker {
+    fn record(&mut self, replay: &Replay, _: &Record<&[u8]>) {
+        assert!(replay.windows().len() <= 16);
+        self.records += 1;
+    }
+
+    fn carried_out(&mut self, _: &Replay, _: &Record<&[u8]>) {
+        self.lines += 1;
+    }
+
+    fn refused(&mut self, _: &Replay, trace: &[u8], answer: u32) {
+        assert!(!trace.is_empty());
+        self.refused = answer;
+        self.lines += 1;
+    }
+
+    fn step(&mut self, replay: &Replay) {
+        assert!(!self.open && !replay.engine.idle());
+        self.open = true;
+    }
+
+    fn stepped(&mut self, _: &Replay, event: Event) {
+        assert!(self.open && event != Event::None);
+        self.open = false;
+        self.lines += 1;
+    }
+}
+
+#[test]
+fn an_observer_is_told_of_each_line_and_changes_none() {
+    let mut random = Random::new(13, 0);
+    for _ in 0..3000 {
+        let mut trace = some_trace(&mut random);
+        if random.one_in(2) {
+            trace.0.truncate(random.below(trace.0.len() as u32 + 1) as usize);
+        }
+        let (mut alone, mut watched) = (Vec::new(), Vec::new());
+        let mut looker = Looker::default();
+        let sound = replay(&trace.0, &mut alone);
+        assert_eq!(replay_before(&trace.0, &mut watched, &mut looker), sound);
+        assert_eq!(watched, alone);
+        assert_eq!(looker.lines + 1, watched.iter().filter(|byte| **byte == b'\n').count());
+        assert_eq!(looker.refused != 0, !sound);
     }
 }

@@ -9,6 +9,13 @@ pub fn listed(random: &mut Random) -> (u32, u32) {
     (random.pick(&WIDTHS), random.pick(&BEATS))
 }
 
+/// Row and column of listed settings in a table of widths and beats.
+pub fn place(width: u32, beats: u32) -> Option<(usize, usize)> {
+    let row = WIDTHS.iter().position(|listed| *listed == width)?;
+    let column = BEATS.iter().position(|listed| *listed == beats)?;
+    Some((row, column))
+}
+
 /// Settings of which one or both are off its list.
 pub fn unlisted(random: &mut Random) -> (u32, u32) {
     let (mut width, mut beats) = listed(random);

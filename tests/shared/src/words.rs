@@ -1,7 +1,7 @@
 // The numbers that stand for an engine and for a monitor, as include/belikumba.h lists them, and
 // the independent program's own engine and monitor.
 
-use independent::engine::{Engine, Outcome, Phase};
+use independent::engine::{Engine, Outcome, Phase, Transfer};
 use independent::monitor::{self, Monitor};
 
 use crate::interface::{Clock, ENGINE_WORDS, MONITOR_WORDS};
@@ -56,12 +56,12 @@ pub fn engine(words: &EngineWords) -> Option<Engine> {
     let phase = match words[PHASE] {
         IDLE => Phase::Idle,
         FETCH => Phase::Fetch,
-        MOVE => Phase::Move {
+        MOVE => Phase::Move(Transfer {
             source: words[SOURCE],
             destination: words[DESTINATION],
             total: words[TOTAL],
             moved: words[MOVED],
-        },
+        }),
         28 => Phase::Update(Outcome::Internal),
         29 => Phase::Update(Outcome::Slave),
         30 => Phase::Update(Outcome::Decode),
@@ -75,15 +75,10 @@ pub fn engine(words: &EngineWords) -> Option<Engine> {
     Some(Engine {
         width: words[WIDTH],
         beats: words[BEATS],
+        errors: if error == 0 { 0 } else { 1 << error },
         sg_mode: truth(CHAIN_MODE),
         ioc_enable: truth(COMPLETE_ENABLE),
         err_enable: truth(ERROR_ENABLE),
-        dma_int_err: error == 4,
-        dma_slv_err: error == 5,
-        dma_dec_err: error == 6,
-        sg_int_err: error == 8,
-        sg_slv_err: error == 9,
-        sg_dec_err: error == 10,
         ioc_irq: truth(COMPLETE_INTERRUPT),
         err_irq: truth(ERROR_INTERRUPT),
         current: words[CURRENT],
@@ -99,22 +94,13 @@ pub fn engine(words: &EngineWords) -> Option<Engine> {
 
 /// The words of an engine.
 pub fn of_engine(engine: &Engine) -> EngineWords {
-    let errors = [
-        engine.dma_int_err,
-        engine.dma_slv_err,
-        engine.dma_dec_err,
-        engine.sg_int_err,
-        engine.sg_slv_err,
-        engine.sg_dec_err,
-    ];
-    let mut set = errors.iter().zip(ERROR_BITS).filter(|(set, _)| **set).map(|(_, bit)| bit);
-    let error = set.next().unwrap_or(0);
-    // One word holds the error bit, so that two at once would have no words.
-    assert_eq!(set.next(), None, "two error bits at once");
+    // One word holds the number of the error bit, so two at once would have no words.
+    assert!(engine.errors.count_ones() <= 1, "two error bits at once");
+    let error = if engine.errors == 0 { 0 } else { engine.errors.trailing_zeros() };
     let (phase, transfer) = match engine.phase {
         Phase::Idle => (IDLE, [0; 4]),
         Phase::Fetch => (FETCH, [0; 4]),
-        Phase::Move { source, destination, total, moved } => {
+        Phase::Move(Transfer { source, destination, total, moved }) => {
             (MOVE, [source, destination, total, moved])
         }
         Phase::Update(Outcome::Internal) => (28, [0; 4]),
@@ -164,10 +150,35 @@ pub fn clock(clock: &Clock) -> monitor::Clock {
     }
 }
 
+/// The other way round.
+fn of_clock(clock: &monitor::Clock) -> Clock {
+    let reset_high = u32::from(clock.reset_high);
+    Clock {
+        bits: reset_high | u32::from(clock.valid) << 1 | u32::from(clock.ready) << 2,
+        address: clock.address,
+        length: clock.length,
+        size: clock.size,
+        burst: clock.burst,
+        cache: clock.cache,
+        prot: clock.prot,
+        qos: clock.qos,
+        region: clock.region,
+        id: clock.id,
+    }
+}
+
 /// The clock before, as a monitor's words hold it.
 pub fn clock_before(words: &MonitorWords) -> Clock {
     let [_, _, _, _, bits, address, length, size, burst, cache, prot, qos, region, id] = *words;
     Clock { bits, address, length, size, burst, cache, prot, qos, region, id }
+}
+
+pub fn flags(words: &MonitorWords) -> u64 {
+    u64::from(words[1]) << 32 | u64::from(words[0])
+}
+
+pub fn snapshot(words: &MonitorWords) -> u64 {
+    u64::from(words[3]) << 32 | u64::from(words[2])
 }
 
 /// The monitor of these words, or none where no monitor has them.
@@ -176,29 +187,33 @@ pub fn monitor(words: &MonitorWords) -> Option<Monitor> {
     if before.bits > 7 {
         return None;
     }
-    let both = |low: usize| u64::from(words[low + 1]) << 32 | u64::from(words[low]);
-    Some(Monitor { flags: both(0), snapshot: both(2), before: clock(&before) })
+    Some(Monitor { flags: flags(words), snapshot: snapshot(words), before: clock(&before) })
+}
+
+/// The words of a monitor with these flags, this snapshot and this clock before.
+pub fn monitor_words(flags: u64, snapshot: u64, before: &Clock) -> MonitorWords {
+    let Clock { bits, address, length, size, burst, cache, prot, qos, region, id } = *before;
+    let [low, high, low_of_snapshot, high_of_snapshot] =
+        [flags, flags >> 32, snapshot, snapshot >> 32].map(|half| half as u32);
+    [
+        low,
+        high,
+        low_of_snapshot,
+        high_of_snapshot,
+        bits,
+        address,
+        length,
+        size,
+        burst,
+        cache,
+        prot,
+        qos,
+        region,
+        id,
+    ]
 }
 
 /// The words of a monitor.
 pub fn of_monitor(monitor: &Monitor) -> MonitorWords {
-    let before = &monitor.before;
-    let bits =
-        u32::from(before.reset_high) | u32::from(before.valid) << 1 | u32::from(before.ready) << 2;
-    [
-        monitor.flags as u32,
-        (monitor.flags >> 32) as u32,
-        monitor.snapshot as u32,
-        (monitor.snapshot >> 32) as u32,
-        bits,
-        before.address,
-        before.length,
-        before.size,
-        before.burst,
-        before.cache,
-        before.prot,
-        before.qos,
-        before.region,
-        before.id,
-    ]
+    monitor_words(monitor.flags, monitor.snapshot, &of_clock(&monitor.before))
 }

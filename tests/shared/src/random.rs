@@ -1,7 +1,14 @@
-// A small random source (splitmix): the same numbers for the same seed and index everywhere,
-// so that a trace can be made again from the two.
+// The one random source (splitmix): the same numbers for the same seed and index everywhere, so a
+// case can be made again from the two.
+
+use std::time::{SystemTime, UNIX_EPOCH};
 
 pub struct Random(u64);
+
+/// A seed that no run before had.
+pub fn fresh_seed() -> u64 {
+    SystemTime::now().duration_since(UNIX_EPOCH).map_or(0, |time| time.as_nanos() as u64)
+}
 
 impl Random {
     pub fn new(seed: u64, index: u64) -> Random {
@@ -35,6 +42,10 @@ impl Random {
 
     pub fn chance(&mut self, percent: u32) -> bool {
         self.below(100) < percent
+    }
+
+    pub fn one_in(&mut self, many: u32) -> bool {
+        self.below(many) == 0
     }
 
     pub fn pick<T: Copy>(&mut self, from: &[T]) -> T {

@@ -1,9 +1,12 @@
-// Links the C library that `./belikumba lib` leaves in target/host, or the one in the folder that
-// BELIKUMBA_LIBRARY names.
+// Links the C library that `./belikumba lib` leaves in target/host, or the one in the folder that BELIKUMBA_LIBRARY
+// names, for a program that asks for the feature `library`.
 
 use std::path::{Path, PathBuf};
 
 fn main() {
+    if std::env::var_os("CARGO_FEATURE_LIBRARY").is_none() {
+        return;
+    }
     println!("cargo:rerun-if-env-changed=BELIKUMBA_LIBRARY");
     let folder = match std::env::var_os("BELIKUMBA_LIBRARY") {
         Some(folder) => PathBuf::from(folder),

@@ -1,0 +1,134 @@
+// What both coverage tables count: numbers in groups, named situations, cut bursts by settings,
+// and register accesses by state. A row that stays at zero means that a test did not reach
+// something, and makes it fail.
+
+use std::collections::BTreeMap;
+
+use independent::engine::Engine;
+
+use crate::registers::{self, REGISTERS, STATES};
+use crate::settings::{self, BEATS, WIDTHS};
+use crate::table::{print_named, print_row, print_table};
+
+/// Counts by width and beats.
+pub type BySettings = [[u64; 8]; 6];
+
+/// Groups of numbers, each with those it expects.
+pub type Groups = [(&'static str, &'static [u32])];
+
+#[derive(Clone)]
+pub struct Counts {
+    numbers: BTreeMap<(&'static str, u32), u64>,
+    named: BTreeMap<&'static str, u64>,
+    cuts: BySettings,
+    writes: [[u64; 7]; 12],
+    reads: [[u64; 7]; 12],
+}
+
+impl Counts {
+    pub fn new(groups: &Groups, names: impl IntoIterator<Item = &'static str>) -> Counts {
+        let numbers =
+            groups.iter().flat_map(|(group, list)| list.iter().map(move |number| (*group, *number)));
+        Counts {
+            numbers: numbers.map(|row| (row, 0)).collect(),
+            named: names.into_iter().map(|name| (name, 0)).collect(),
+            cuts: [[0; 8]; 6],
+            writes: [[0; 7]; 12],
+            reads: [[0; 7]; 12],
+        }
+    }
+
+    /// Counts `number` in a group.
+    pub fn number(&mut self, group: &'static str, number: u32) {
+        *self.numbers.entry((group, number)).or_insert(0) += 1;
+    }
+
+    /// Counts a number of a group that expects only some of those that come.
+    pub fn number_if_expected(&mut self, group: &'static str, number: u32) {
+        if let Some(count) = self.numbers.get_mut(&(group, number)) {
+            *count += 1;
+        }
+    }
+
+    /// Counts a situation.
+    pub fn see(&mut self, name: &'static str) {
+        *self.named.get_mut(name).expect("a situation of the list") += 1;
+    }
+
+    pub fn see_if(&mut self, seen: bool, name: &'static str) {
+        if seen {
+            self.see(name);
+        }
+    }
+
+    /// Counts a burst that ended before its transfer.
+    pub fn cut(&mut self, width: u32, beats: u32) {
+        if let Some((row, column)) = settings::place(width, beats) {
+            self.cuts[row][column] += 1;
+        }
+    }
+
+    pub fn write(&mut self, offset: u32, engine: &Engine) {
+        self.writes[registers::row(offset)][registers::column(engine)] += 1;
+    }
+
+    pub fn read(&mut self, offset: u32, engine: &Engine) {
+        self.reads[registers::row(offset)][registers::column(engine)] += 1;
+    }
+
+    pub fn add(&mut self, other: &Counts) {
+        add_rows(&mut self.numbers, &other.numbers);
+        add_rows(&mut self.named, &other.named);
+        add_table(&mut self.cuts, &other.cuts);
+        add_table(&mut self.writes, &other.writes);
+        add_table(&mut self.reads, &other.reads);
+    }
+
+    /// Prints a row for each group; this and the others give the number of zeros.
+    pub fn print_numbers(&self, groups: &Groups) -> usize {
+        let print = |group: &'static str| {
+            let row = self.numbers.range((group, 0)..=(group, u32::MAX));
+            print_row(group, row.map(|((_, number), count)| (number.to_string(), *count)).collect())
+        };
+        groups.iter().map(|(group, _)| print(group)).sum()
+    }
+
+    /// Prints the named counts of a list in one row.
+    pub fn print_words(&self, title: &str, names: &[&'static str]) -> usize {
+        print_row(title, names.iter().map(|name| (name.to_string(), self.named[name])).collect())
+    }
+
+    /// Prints the named counts of a list, a line each.
+    pub fn print_list(&self, title: &str, names: &[&'static str]) -> usize {
+        print_named(title, names, &self.named)
+    }
+
+    pub fn print_tables(&self) -> usize {
+        let (states, registers) = (STATES.map(String::from), REGISTERS.map(String::from));
+        print_by_settings("bursts that end before their transfer", &self.cuts)
+            + print_table("register writes", &states, &registers, &self.writes)
+            + print_table("register reads", &states, &registers, &self.reads)
+    }
+}
+
+pub fn print_by_settings(title: &str, counts: &BySettings) -> usize {
+    let beats = BEATS.map(|beats| format!("L={beats}"));
+    let widths = WIDTHS.map(|width| format!("W={width}"));
+    print_table(title, &beats, &widths, counts)
+}
+
+pub fn add_rows<K: Copy + Ord>(sum: &mut BTreeMap<K, u64>, other: &BTreeMap<K, u64>) {
+    for (row, count) in other {
+        *sum.entry(*row).or_insert(0) += count;
+    }
+}
+
+pub fn add_cells(sum: &mut [u64], other: &[u64]) {
+    for (cell, count) in sum.iter_mut().zip(other) {
+        *cell += count;
+    }
+}
+
+pub fn add_table<const C: usize, const R: usize>(sum: &mut [[u64; C]; R], other: &[[u64; C]; R]) {
+    add_cells(sum.as_flattened_mut(), other.as_flattened());
+}

@@ -1,0 +1,13 @@
+// What the tests and the bench share.
+pub mod clocks;
+pub mod coverage;
+pub mod crew;
+#[cfg(feature = "library")]
+pub mod interface;
+pub mod random;
+pub mod record;
+pub mod registers;
+pub mod settings;
+pub mod table;
+#[cfg(feature = "library")]
+pub mod words;

@@ -1,4 +1,4 @@
--- Document 01, "Registers": bits of a value, pointers, and the numbers of CDMASR's error bits.
+-- Document 01, "Registers": pointers, and the bits of CDMACR and CDMASR by their numbers, as in PG034.
 use Prim.Native.Nat.{ℕ, _*_, _/_, _%_, _^_}
 use mathlib.Core.Bool.{Bool}
 use lib.Dec.{eqb}
@@ -9,11 +9,49 @@ use Rattle.state.specs.declared.engine.ErrorBit.the-variants.{Clear, Dma
 abbrev pub bit : ℕ → ℕ → Bool
 bit n v = eqb (v / 2 ^ n % 2) 1
 
--- a pointer: low six bits dropped
-abbrev pub pointer : ℕ → ℕ
-pointer v = v / 64 * 64
+-- a pointer is a multiple of 64: low six bits dropped
+abbrev pub alignment : ℕ
+alignment = 64
 
--- the number of the CDMASR bit
+abbrev pub pointer : ℕ → ℕ
+pointer v = v / alignment * alignment
+
+-- CDMACR: bit 1 and the field in bits 23..16 always read 1; bit 2 resets; bits 3, 12 and 14 are kept
+abbrev pub tailPntrEn : ℕ
+tailPntrEn = 1
+
+abbrev pub reset : ℕ
+reset = 2
+
+abbrev pub sgMode : ℕ
+sgMode = 3
+
+abbrev pub iocIrqEn : ℕ
+iocIrqEn = 12
+
+abbrev pub errIrqEn : ℕ
+errIrqEn = 14
+
+abbrev pub irqThreshold : ℕ
+irqThreshold = 16
+
+-- CDMASR: bit 3 and the field in bits 23..16 always read 1
+abbrev pub idle : ℕ
+idle = 1
+
+abbrev pub sgIncld : ℕ
+sgIncld = 3
+
+abbrev pub iocIrq : ℕ
+iocIrq = 12
+
+abbrev pub errIrq : ℕ
+errIrq = 14
+
+abbrev pub irqThresholdSts : ℕ
+irqThresholdSts = 16
+
+-- CDMASR's error bits
 abbrev pub errorBitOf : ErrorBit → ℕ
 errorBitOf Clear = 0
 errorBitOf DmaIntErr = 4

@@ -1,2 +1,3 @@
-pub mod State
 pub mod Bits
+pub mod Descriptor
+pub mod State

@@ -1,11 +1,12 @@
 -- Document 01, "Registers" and "Numbered answers": the fresh state, busy, error bits, the well-formed state and the
 -- interrupt line.
-use Prim.Native.Nat.{_+_, _%_}
+use Prim.Native.Nat.{ℕ, _+_, _%_}
 use mathlib.Core.Bool.{Bool, true, false, not}
 use lib.Dec.{eqb, leb, ltb}
 use Rattle.kit.specs.Choice.{both, either}
 use Rattle.kit.specs.Limits.{mostBytes, addressEnd}
 use Rattle.kit.specs.declared.settings.Settings.{Settings}
+use Rattle.state.specs.Bits.{alignment}
 use Rattle.state.specs.declared.engine.Control.{Control}
 use Rattle.state.specs.declared.engine.Status.{Status}
 use Rattle.state.specs.declared.engine.Pointers.{Pointers}
@@ -47,7 +48,7 @@ errorSetOf SgDecErr = true
 
 -- current, tail, next and held next pointers are multiples of 64
 abbrev pub aligned : Pointers → Bool
-aligned c = both (eqb (c .current % 64) 0) (both (eqb (c .tail % 64) 0) (both (eqb (c .next % 64) 0) (eqb (c .heldnext % 64) 0)))
+aligned c = both (eqb (c .current % alignment) 0) (both (eqb (c .tail % alignment) 0) (both (eqb (c .next % alignment) 0) (eqb (c .heldnext % alignment) 0)))
 
 -- while moving: moved is less than total, total at most 8,388,607, source and destination + moved below 2^32
 abbrev pub transferFits : Transfer → Bool
@@ -76,16 +77,47 @@ interruptLineOf s = either (both (s .status .ioc) (s .control .iocen)) (both (s 
 
 -- a state with one part replaced
 abbrev pub withControl : Engine → Control → Engine
-withControl s c = record { settings = s .settings; control = c; status = s .status; pointers = s .pointers; simple = s .simple; phase = s .phase }
+withControl s x = record { settings = s .settings; control = x; status = s .status; pointers = s .pointers; simple = s .simple; phase = s .phase }
 
 abbrev pub withStatus : Engine → Status → Engine
-withStatus s t = record { settings = s .settings; control = s .control; status = t; pointers = s .pointers; simple = s .simple; phase = s .phase }
+withStatus s x = record { settings = s .settings; control = s .control; status = x; pointers = s .pointers; simple = s .simple; phase = s .phase }
 
 abbrev pub withPointers : Engine → Pointers → Engine
-withPointers s c = record { settings = s .settings; control = s .control; status = s .status; pointers = c; simple = s .simple; phase = s .phase }
+withPointers s x = record { settings = s .settings; control = s .control; status = s .status; pointers = x; simple = s .simple; phase = s .phase }
 
 abbrev pub withSimple : Engine → Simple → Engine
-withSimple s t = record { settings = s .settings; control = s .control; status = s .status; pointers = s .pointers; simple = t; phase = s .phase }
+withSimple s x = record { settings = s .settings; control = s .control; status = s .status; pointers = s .pointers; simple = x; phase = s .phase }
 
 abbrev pub withPhase : Engine → Phase → Engine
-withPhase s p = record { settings = s .settings; control = s .control; status = s .status; pointers = s .pointers; simple = s .simple; phase = p }
+withPhase s x = record { settings = s .settings; control = s .control; status = s .status; pointers = s .pointers; simple = s .simple; phase = x }
+
+-- a state with one field replaced
+abbrev pub withFault : Engine → ErrorBit → Engine
+withFault s x = withStatus s (record { fault = x; ioc = s .status .ioc; err = s .status .err })
+
+abbrev pub withIoc : Engine → Bool → Engine
+withIoc s x = withStatus s (record { fault = s .status .fault; ioc = x; err = s .status .err })
+
+abbrev pub withErr : Engine → Bool → Engine
+withErr s x = withStatus s (record { fault = s .status .fault; ioc = s .status .ioc; err = x })
+
+abbrev pub withCurrent : Engine → ℕ → Engine
+withCurrent s x = withPointers s (record { current = x; tail = s .pointers .tail; next = s .pointers .next; heldnext = s .pointers .heldnext })
+
+abbrev pub withTail : Engine → ℕ → Engine
+withTail s x = withPointers s (record { current = s .pointers .current; tail = x; next = s .pointers .next; heldnext = s .pointers .heldnext })
+
+abbrev pub withNext : Engine → ℕ → Engine
+withNext s x = withPointers s (record { current = s .pointers .current; tail = s .pointers .tail; next = x; heldnext = s .pointers .heldnext })
+
+abbrev pub withHeldnext : Engine → ℕ → Engine
+withHeldnext s x = withPointers s (record { current = s .pointers .current; tail = s .pointers .tail; next = s .pointers .next; heldnext = x })
+
+abbrev pub withSa : Engine → ℕ → Engine
+withSa s x = withSimple s (record { sa = x; da = s .simple .da; btt = s .simple .btt })
+
+abbrev pub withDa : Engine → ℕ → Engine
+withDa s x = withSimple s (record { sa = s .simple .sa; da = x; btt = s .simple .btt })
+
+abbrev pub withBtt : Engine → ℕ → Engine
+withBtt s x = withSimple s (record { sa = s .simple .sa; da = s .simple .da; btt = x })

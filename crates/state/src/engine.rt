@@ -1,4 +1,11 @@
 // The engine's state. What only a phase needs lives in that phase; what outlives it stands beside it.
+use crate::bits::DMA_DEC_ERR;
+use crate::bits::DMA_INT_ERR;
+use crate::bits::DMA_SLV_ERR;
+use crate::bits::SG_DEC_ERR;
+use crate::bits::SG_INT_ERR;
+use crate::bits::SG_SLV_ERR;
+use crate::descriptor::ALIGNMENT;
 use kit::limits::ADDRESS_END;
 use kit::limits::MOST_BYTES;
 use kit::logic::both;
@@ -144,12 +151,12 @@ pub fn bit_number(bit: ErrorBit) -> u32
 {
     match bit {
         ErrorBit::Clear => 0,
-        ErrorBit::DmaIntErr => 4,
-        ErrorBit::DmaSlvErr => 5,
-        ErrorBit::DmaDecErr => 6,
-        ErrorBit::SgIntErr => 8,
-        ErrorBit::SgSlvErr => 9,
-        ErrorBit::SgDecErr => 10,
+        ErrorBit::DmaIntErr => DMA_INT_ERR,
+        ErrorBit::DmaSlvErr => DMA_SLV_ERR,
+        ErrorBit::DmaDecErr => DMA_DEC_ERR,
+        ErrorBit::SgIntErr => SG_INT_ERR,
+        ErrorBit::SgSlvErr => SG_SLV_ERR,
+        ErrorBit::SgDecErr => SG_DEC_ERR,
     }
 }
 
@@ -157,10 +164,13 @@ fn pointers_aligned(pointers: Pointers) -> bool
     ensures { λ r. ⌜ r ≡ aligned pointers ⌝ }
 {
     both(
-        pointers.current % 64 == 0,
+        pointers.current % ALIGNMENT == 0,
         both(
-            pointers.tail % 64 == 0,
-            both(pointers.next % 64 == 0, pointers.heldnext % 64 == 0),
+            pointers.tail % ALIGNMENT == 0,
+            both(
+                pointers.next % ALIGNMENT == 0,
+                pointers.heldnext % ALIGNMENT == 0,
+            ),
         ),
     )
 }

@@ -1,2 +1,4 @@
-// The engine's state, what makes it well formed, and its interrupt line.
+// The engine's state, what makes it well formed, its registers' bits and interrupt line, and a descriptor's layout.
+pub mod bits;
+pub mod descriptor;
 pub mod engine;

@@ -1,3 +1,4 @@
 pub mod Reach
 pub mod Cutting
 pub mod Shortest
+pub mod Claims

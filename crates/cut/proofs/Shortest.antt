@@ -81,5 +81,5 @@ module _ (w l : ℕ) (pw : 0 < w) (pl : 0 < l) (e : ℕ) where
       (suc-le-suc (below (without m) (λ c n. legal c (back m n)) (rest-covers a others legal covers h b m i)))
 
 module _ (w l : ℕ) (pw : 0 < w) (pl : 0 < l) (a e : ℕ) (h : a ≤ e) where
-  pub well-cut : WellCut w l a e
+  pub well-cut : WellCut w l a e (cut w l a e)
   well-cut = record { legal = cut-legal w l pw pl e a; tiles = cut-tiles w l pw pl e a h; shortest = cut-shortest w l pw pl e a }

@@ -5,7 +5,7 @@ use mathlib.Core.Path.{_≡_}
 use mathlib.Core.List.{List, [], _∷_, List·Memᴰ}
 use lib.ListN.{length}
 use Rattle.cut.specs.declared.Burst.{Burst}
-use Rattle.cut.specs.Cut.{page, cut}
+use Rattle.cut.specs.Cut.{page}
 
 -- the bytes of b, from its start up to, not including, its stop
 abbrev pub stop : Burst → ℕ
@@ -30,8 +30,8 @@ Tiles a e (b ∷ more) = (b .start ≡ a) × (0 < b .bytes) × Tiles (stop b) e 
 abbrev pub Covers : ℕ → ℕ → List Burst → Type 0
 Covers a e bursts = (x : ℕ) → a ≤ x → x < e → (b : Burst) × List·Memᴰ b bursts × (b .start ≤ x) × (x < stop b)
 
--- the claim: the cut of the bytes from a up to e is legal, tiles them, and is no longer than any legal list that covers them
-pub record WellCut (w l a e : ℕ) : Type 0 where
-  pub legal : AllLegal w l (cut w l a e)
-  pub tiles : Tiles a e (cut w l a e)
-  pub shortest : (others : List Burst) → AllLegal w l others → Covers a e others → length (cut w l a e) ≤ length others
+-- the bursts are legal, tile the bytes from a up to e, and are no more than those of any legal list that covers them
+pub record WellCut (w l a e : ℕ) (bursts : List Burst) : Type 0 where
+  pub legal : AllLegal w l bursts
+  pub tiles : Tiles a e bursts
+  pub shortest : (others : List Burst) → AllLegal w l others → Covers a e others → length bursts ≤ length others

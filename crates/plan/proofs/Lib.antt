@@ -1,3 +1,4 @@
 pub mod Planning
 pub mod Walking
 pub mod Filling
+pub mod Claims

@@ -13,8 +13,7 @@ use Rattle.kit.specs.Choice.{when, either}
 use Rattle.kit.specs.Limits.{mostBytes, addressEnd}
 use Rattle.kit.specs.Settings.{legalSettings}
 use Rattle.kit.specs.Answer.{numberOf}
-use Rattle.kit.proofs.Choice.{yes, no, decide, never}
-use Rattle.kit.proofs.Numbers.{number-tells}
+use Rattle.kit.proofs.Choice.{yes, no, cases, decide, never}
 use Rattle.cut.specs.Cut.{cut}
 use Rattle.plan.specs.declared.measure.Planned.{Planned}
 use Rattle.plan.specs.Plan.{outOfRange, Measured, refusal, measureOf, Plan, written, measured, seen}
@@ -45,11 +44,16 @@ in-range start count e = go (eqb count 0) (ltb mostBytes count) (ltb addressEnd 
         let nonzero = eqb-false count 0 p in
         record { some = omega (arith, nonzero); few = ltb-false mostBytes count q; inside = ltb-false addressEnd (start + count) r }
 
+-- what a plan that is not refused measures
+abbrev pub countedAs : ℕ → Measured
+countedAs n = record { answer = 0; bursts = n }
+
 -- a plan whose answer is 0
 pub record Planable (w l start count room : ℕ) : Type 0 where
   pub legal : legalSettings w l ≡ true
   pub range : InRange start count
   pub fits : 2 * length (cut w l start (start + count)) ≤ room
+  pub counted : measureOf w l start count room ≡ countedAs (length (cut w l start (start + count)))
 
 pub planable : (w l start count room : ℕ) → measureOf w l start count room .answer ≡ 0 → Planable w l start count room
 unfolding measureOf
@@ -59,12 +63,27 @@ planable w l start count room e = go (legalSettings w l) (outOfRange start count
     n = length (cut w l start (start + count))
 
     go : (t u v : Bool) → legalSettings w l ≡ t → outOfRange start count ≡ u → ltb room (2 * n) ≡ v
-        → when t (when u (refusal 7) (when v (refusal 8) (record { answer = 0; bursts = n }))) (refusal 1) .answer ≡ 0
+        → when t (when u (refusal 7) (when v (refusal 8) (countedAs n))) (refusal 1) .answer ≡ 0
         → Planable w l start count room
     go false u v p q r e = absurd (omega arith)
     go true true v p q r e = absurd (omega arith)
     go true false true p q r e = absurd (omega arith)
-    go true false false p q r e = record { legal = p; range = in-range start count q; fits = ltb-false room (2 * n) r }
+    go true false false p q r e = record {
+      legal = p;
+      range = in-range start count q;
+      fits = ltb-false room (2 * n) r;
+      counted = sym (yes (refusal 1) p (no (refusal 7) q (no (refusal 8) r refl)));
+    }
+
+pub refused-none : (w l start count room : ℕ) → (measureOf w l start count room .answer ≡ 0 → ⊥) → measureOf w l start count room .bursts ≡ 0
+unfolding measureOf
+refused-none w l start count room =
+    cases P (legalSettings w l)
+    (λ _. cases P (outOfRange start count) (λ _ _. refl) λ _. cases P (ltb room (2 * length (cut w l start (start + count)))) (λ _ _. refl) λ _ h. absurd (h refl))
+    (λ _ _. refl)
+  where
+    P : Measured → Type 0
+    P m = (m .answer ≡ 0 → ⊥) → m .bursts ≡ 0
 
 -- what a caller sees of a result whose answer has the number k
 abbrev pub given : ℕ → ℕ → List ℕ → Plan
@@ -86,11 +105,3 @@ module _ (r : Planned) {m : Measured} (measures : measured r ≡ m) {k : ℕ} (n
       ap (λ (x : ℕ). given x (r .bursts) places) numbered
       ∙ ap (given (numberOf (r .answer)) (r .bursts)) (no (sets places 0 values) (ne-eqb (numberOf (r .answer)) 0 (λ e. z (numbered ∙ e))) refl)
       ∙ ap (λ (x : Measured). written x values places) measures
-
--- two results that one contract allows are equal, and so are the slices they leave
-pub plan-unique : {p q : Planned} {a b : List ℕ} {x : Plan} → seen p a ≡ x → seen q b ≡ x → (p ≡ q) × (a ≡ b)
-plan-unique {p} {q} e f =
-    let same = e ∙ sym f in
-    let answers = number-tells (ap (λ (y : Plan). y .answer) same) in
-    let bursts = ap (λ (y : Plan). y .bursts) same in
-    (λ i. record { answer = answers i; bursts = bursts i }, ap (λ (y : Plan). y .places) same)

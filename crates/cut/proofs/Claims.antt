@@ -1,0 +1,17 @@
+-- The claims of specs/Claims.antt.
+use mathlib.Core.Path.{_≡_, sym, _∙_}
+use Prim.Native.Nat.{ℕ}
+use Rattle.cut.specs.Claims.{Claims, Unique}
+use Rattle.cut.proofs.Reach.{burst-bytes}
+use Rattle.cut.proofs.Shortest.{well-cut}
+
+pub cut-claims : Claims
+cut-claims = record { well-cut = λ w l pw pl a e h. well-cut w l pw pl a e h; lengths = λ w l a n. burst-bytes w l a n }
+
+pub cut-unique : Unique
+cut-unique = record {
+  span = λ w l r s e f. e ∙ sym f;
+  words-left = λ w l a r s e f. e ∙ sym f;
+  bytes-within = λ words a n r s e f. e ∙ sym f;
+  burst-bytes = λ w l a n r s e f. e ∙ sym f;
+}

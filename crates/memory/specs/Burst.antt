@@ -5,8 +5,8 @@ use lib.ListN.{take, drop}
 use lib.Seq.{sets}
 
 -- no burst is longer: a legal one stays in one page
-abbrev pub longest : ℕ
-longest = 4096
+abbrev pub longestBurst : ℕ
+longestBurst = 4096
 
 -- m, with the n bytes from `to` on as m's n bytes from `from` on were
 abbrev pub copied : List ℕ → ℕ → ℕ → ℕ → List ℕ

@@ -13,7 +13,7 @@ use Rattle.memory.specs.declared.window.Window.{Window}
 use Rattle.memory.specs.declared.verdict.Verdict.{Verdict}
 use Rattle.memory.specs.declared.verdict.Verdict.the-variants.{Okay, Slave as SlaveError, Decode as DecodeError}
 use Rattle.memory.specs.Verdict.{groupOf, worse}
-use Rattle.memory.specs.Burst.{longest, copied}
+use Rattle.memory.specs.Burst.{longestBurst, copied}
 use Rattle.state.specs.declared.engine.Engine.{Engine}
 use Rattle.state.specs.declared.engine.Transfer.{Transfer}
 use Rattle.state.specs.declared.engine.ErrorBit.{ErrorBit}
@@ -121,7 +121,7 @@ pub record Carriable (t : Transfer) (from at bytes : ℕ) : Type 0 where
   pub source : from < addressEnd
   pub destination : at < addressEnd
   pub some : 0 < bytes
-  pub page : bytes ≤ longest
+  pub page : bytes ≤ longestBurst
   pub total : t .moved + bytes ≤ mostBytes
 
 -- the status word: complete, or for an error only bit 30 (decode), 29 (slave) or 28 (internal)

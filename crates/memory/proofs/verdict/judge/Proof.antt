@@ -11,20 +11,23 @@ use Rattle.memory.proofs.verdict.judge.Statement.{statement}
 use Rattle.memory.proofs.verdict.judge.Tie as tie
 
 abbrev Inv-loop : tie.InvT-loop
-Inv-loop size windows start bytes end i₀ i =
+Inv-loop size windows start bytes size' end i₀ i =
     (i ≤ length windows) × (hit (windowsOf (drop i windows)) start end ≡ hit (windowsOf windows) start end)
 
 abbrev μ-loop : tie.MeasureT-loop
-μ-loop size windows start bytes end i₀ i = length windows - i
+μ-loop size windows start bytes size' end i₀ i = length windows - i
 
 returns : tie.Need-returns Inv-loop μ-loop
 returns c = group-none _ _ _ _ (c .if1 .taken)
 
+returns-2 : tie.Need-returns-2 Inv-loop μ-loop
+returns-2 c = group-decode _ _ _ _ (omega arith) (omega arith)
+
+returns-3 : tie.Need-returns-3 Inv-loop μ-loop
+returns-3 c = group-decode _ _ _ _ (omega arith) (omega arith)
+
 add-end : tie.Need-add-end Inv-loop μ-loop
 add-end c = search needs
-
-returns-2 : tie.Need-returns-2 Inv-loop μ-loop
-returns-2 c = group-decode _ _ _ _ (omega arith) (c .if2 .taken)
 
 loop-holds : tie.Need-loop-holds Inv-loop μ-loop
 loop-holds c = (omega arith, refl)
@@ -32,28 +35,28 @@ loop-holds c = (omega arith, refl)
 add-loop : tie.Need-add-loop Inv-loop μ-loop
 add-loop c = search needs
 
-mul-t10 : tie.Need-mul-t10 Inv-loop μ-loop
-mul-t10 c = search needs
+mul-t11 : tie.Need-mul-t11 Inv-loop μ-loop
+mul-t11 c = search needs
 
-shared-slice-read-t14 : tie.Need-shared-slice-read-t14 Inv-loop μ-loop
-shared-slice-read-t14 c = search needs
+shared-slice-read-t15 : tie.Need-shared-slice-read-t15 Inv-loop μ-loop
+shared-slice-read-t15 c = search needs
 
-add-t11 : tie.Need-add-t11 Inv-loop μ-loop
-add-t11 c = search needs
+add-t12 : tie.Need-add-t12 Inv-loop μ-loop
+add-t12 c = search needs
 
-mul-t15 : tie.Need-mul-t15 Inv-loop μ-loop
-mul-t15 c = search needs
+mul-t16 : tie.Need-mul-t16 Inv-loop μ-loop
+mul-t16 c = search needs
 
-shared-slice-read-t17 : tie.Need-shared-slice-read-t17 Inv-loop μ-loop
-shared-slice-read-t17 c = search needs
+shared-slice-read-t18 : tie.Need-shared-slice-read-t18 Inv-loop μ-loop
+shared-slice-read-t18 c = search needs
 
 touches-requires : tie.Need-touches-requires Inv-loop μ-loop
 touches-requires c κs = search needs
 
-returns-3 : tie.Need-returns-3 Inv-loop μ-loop
-returns-3 c =
-    group-slave _ _ _ _ (omega arith) (c .before .before .before .before .before .before .if2 .left)
-    (sym (c .before .before .before .before .before .loop .inv .1) ∙ hit-here _ _ _ _ (c .before .before .before .before .loop-test .taken) (sym (c .before .touches .ensures) ∙ c .if3 .taken))
+returns-4 : tie.Need-returns-4 Inv-loop μ-loop
+returns-4 c =
+    group-slave _ _ _ _ (omega arith) (omega arith)
+    (sym (c .before .before .before .before .before .loop .inv .1) ∙ hit-here _ _ _ _ (c .before .before .before .before .loop-test .taken) (sym (c .before .touches .ensures) ∙ c .if4 .taken))
 
 add-i : tie.Need-add-i Inv-loop μ-loop
 add-i c = search needs
@@ -64,12 +67,12 @@ loop-less c = omega arith
 loop-again : tie.Need-loop-again Inv-loop μ-loop
 loop-again c = (
   omega arith,
-  hit-on _ _ _ _ (c .before .before .before .before .loop-test .taken) (sym (c .before .touches .ensures) ∙ c .if3 .left) ∙ c .before .before .before .before .before .loop .inv .1,
+  hit-on _ _ _ _ (c .before .before .before .before .loop-test .taken) (sym (c .before .touches .ensures) ∙ c .if4 .left) ∙ c .before .before .before .before .before .loop .inv .1,
 )
 
-returns-4 : tie.Need-returns-4 Inv-loop μ-loop
-returns-4 c =
-    group-okay _ _ _ _ (omega arith) (c .before .before .if2 .left) (sym (c .before .loop .inv .1) ∙ hit-end _ _ _ _ (c .loop-test .left))
+returns-5 : tie.Need-returns-5 Inv-loop μ-loop
+returns-5 c =
+    group-okay _ _ _ _ (omega arith) (omega arith) (sym (c .before .loop .inv .1) ∙ hit-end _ _ _ _ (c .loop-test .left))
 
 pub judge-spec : {M : Type 1} → statement M
 judge-spec =
@@ -78,18 +81,19 @@ judge-spec =
     Inv-loop
     μ-loop
     returns
-    add-end
     returns-2
+    returns-3
+    add-end
     loop-holds
     add-loop
-    mul-t10
-    shared-slice-read-t14
-    add-t11
-    mul-t15
-    shared-slice-read-t17
+    mul-t11
+    shared-slice-read-t15
+    add-t12
+    mul-t16
+    shared-slice-read-t18
     touches-requires
-    returns-3
+    returns-4
     add-i
     loop-less
     loop-again
-    returns-4)
+    returns-5)

@@ -12,28 +12,31 @@ use Rattle.memory.proofs.verdict.judge_pair.Statement.{statement}
 use Rattle.memory.proofs.verdict.judge_pair.Tie as tie
 
 abbrev Inv-loop : tie.InvT-loop
-Inv-loop size windows first second bytes first-end second-end i₀ i =
+Inv-loop size windows first second bytes size' last first-end second-end i₀ i =
     (i ≤ length windows)
     × (hit (windowsOf (drop i windows)) first first-end ≡ hit (windowsOf windows) first first-end)
     × (hit (windowsOf (drop i windows)) second second-end ≡ hit (windowsOf windows) second second-end)
 
 abbrev μ-loop : tie.MeasureT-loop
-μ-loop size windows first second bytes first-end second-end i₀ i = length windows - i
+μ-loop size windows first second bytes size' last first-end second-end i₀ i = length windows - i
 
 returns : tie.Need-returns Inv-loop μ-loop
 returns c = pair-none _ _ _ _ _ (c .if1 .taken)
 
+returns-2 : tie.Need-returns-2 Inv-loop μ-loop
+returns-2 c = pair-decode _ _ _ _ _ (omega arith) (inl (omega arith))
+
+returns-3 : tie.Need-returns-3 Inv-loop μ-loop
+returns-3 c = pair-decode _ _ _ _ _ (omega arith) (inl (omega arith))
+
+returns-4 : tie.Need-returns-4 Inv-loop μ-loop
+returns-4 c = pair-decode _ _ _ _ _ (omega arith) (inr (omega arith))
+
 add-first-end : tie.Need-add-first-end Inv-loop μ-loop
 add-first-end c = search needs
 
-returns-2 : tie.Need-returns-2 Inv-loop μ-loop
-returns-2 c = pair-decode _ _ _ _ _ (omega arith) (inl (c .if2 .taken))
-
 add-second-end : tie.Need-add-second-end Inv-loop μ-loop
 add-second-end c = search needs
-
-returns-3 : tie.Need-returns-3 Inv-loop μ-loop
-returns-3 c = pair-decode _ _ _ _ _ (omega arith) (inr (c .if3 .taken))
 
 loop-holds : tie.Need-loop-holds Inv-loop μ-loop
 loop-holds c = (omega arith, refl, refl)
@@ -41,36 +44,36 @@ loop-holds c = (omega arith, refl, refl)
 add-loop : tie.Need-add-loop Inv-loop μ-loop
 add-loop c = search needs
 
-mul-t12 : tie.Need-mul-t12 Inv-loop μ-loop
-mul-t12 c = search needs
+mul-t13 : tie.Need-mul-t13 Inv-loop μ-loop
+mul-t13 c = search needs
 
-shared-slice-read-t16 : tie.Need-shared-slice-read-t16 Inv-loop μ-loop
-shared-slice-read-t16 c = search needs
+shared-slice-read-t17 : tie.Need-shared-slice-read-t17 Inv-loop μ-loop
+shared-slice-read-t17 c = search needs
 
-add-t13 : tie.Need-add-t13 Inv-loop μ-loop
-add-t13 c = search needs
+add-t14 : tie.Need-add-t14 Inv-loop μ-loop
+add-t14 c = search needs
 
-mul-t17 : tie.Need-mul-t17 Inv-loop μ-loop
-mul-t17 c = search needs
+mul-t18 : tie.Need-mul-t18 Inv-loop μ-loop
+mul-t18 c = search needs
 
-shared-slice-read-t19 : tie.Need-shared-slice-read-t19 Inv-loop μ-loop
-shared-slice-read-t19 c = search needs
+shared-slice-read-t20 : tie.Need-shared-slice-read-t20 Inv-loop μ-loop
+shared-slice-read-t20 c = search needs
 
 touches-requires : tie.Need-touches-requires Inv-loop μ-loop
 touches-requires c κs = search needs
 
-returns-4 : tie.Need-returns-4 Inv-loop μ-loop
-returns-4 c =
-    pair-slave _ _ _ _ _ (omega arith) (c .before .before .before .before .before .before .before .if2 .left) (c .before .before .before .before .before .before .if3 .left)
-    (inl (sym (c .before .before .before .before .before .loop .inv .1) ∙ hit-here _ _ _ _ (c .before .before .before .before .loop-test .taken) (sym (c .before .touches .ensures) ∙ c .if4 .taken)))
+returns-5 : tie.Need-returns-5 Inv-loop μ-loop
+returns-5 c =
+    pair-slave _ _ _ _ _ (omega arith) (omega arith) (omega arith)
+    (inl (sym (c .before .before .before .before .before .loop .inv .1) ∙ hit-here _ _ _ _ (c .before .before .before .before .loop-test .taken) (sym (c .before .touches .ensures) ∙ c .if5 .taken)))
 
 touches-requires-2 : tie.Need-touches-requires-2 Inv-loop μ-loop
 touches-requires-2 c κs = search needs
 
-returns-5 : tie.Need-returns-5 Inv-loop μ-loop
-returns-5 c =
-    pair-slave _ _ _ _ _ (omega arith) (c .before .before .before .before .before .before .before .before .before .if2 .left) (c .before .before .before .before .before .before .before .before .if3 .left)
-    (inr (sym (c .before .before .before .before .before .before .before .loop .inv .2) ∙ hit-here _ _ _ _ (c .before .before .before .before .before .before .loop-test .taken) (sym (c .before .touches2 .ensures) ∙ c .if5 .taken)))
+returns-6 : tie.Need-returns-6 Inv-loop μ-loop
+returns-6 c =
+    pair-slave _ _ _ _ _ (omega arith) (omega arith) (omega arith)
+    (inr (sym (c .before .before .before .before .before .before .before .loop .inv .2) ∙ hit-here _ _ _ _ (c .before .before .before .before .before .before .loop-test .taken) (sym (c .before .touches2 .ensures) ∙ c .if6 .taken)))
 
 add-i : tie.Need-add-i Inv-loop μ-loop
 add-i c = search needs
@@ -81,13 +84,13 @@ loop-less c = omega arith
 loop-again : tie.Need-loop-again Inv-loop μ-loop
 loop-again c = (
   omega arith,
-  hit-on _ _ _ _ (c .before .before .before .before .before .before .loop-test .taken) (sym (c .before .before .before .touches .ensures) ∙ c .before .before .if4 .left) ∙ c .before .before .before .before .before .before .before .loop .inv .1,
-  hit-on _ _ _ _ (c .before .before .before .before .before .before .loop-test .taken) (sym (c .before .touches2 .ensures) ∙ c .if5 .left) ∙ c .before .before .before .before .before .before .before .loop .inv .2,
+  hit-on _ _ _ _ (c .before .before .before .before .before .before .loop-test .taken) (sym (c .before .before .before .touches .ensures) ∙ c .before .before .if5 .left) ∙ c .before .before .before .before .before .before .before .loop .inv .1,
+  hit-on _ _ _ _ (c .before .before .before .before .before .before .loop-test .taken) (sym (c .before .touches2 .ensures) ∙ c .if6 .left) ∙ c .before .before .before .before .before .before .before .loop .inv .2,
 )
 
-returns-6 : tie.Need-returns-6 Inv-loop μ-loop
-returns-6 c =
-    pair-okay _ _ _ _ _ (omega arith) (c .before .before .before .if2 .left) (c .before .before .if3 .left)
+returns-7 : tie.Need-returns-7 Inv-loop μ-loop
+returns-7 c =
+    pair-okay _ _ _ _ _ (omega arith) (omega arith) (omega arith)
     (sym (c .before .loop .inv .1) ∙ hit-end _ _ _ _ (c .loop-test .left))
     (sym (c .before .loop .inv .2) ∙ hit-end _ _ _ _ (c .loop-test .left))
 
@@ -98,22 +101,23 @@ judge-pair-spec =
     Inv-loop
     μ-loop
     returns
-    add-first-end
     returns-2
-    add-second-end
     returns-3
+    returns-4
+    add-first-end
+    add-second-end
     loop-holds
     add-loop
-    mul-t12
-    shared-slice-read-t16
-    add-t13
-    mul-t17
-    shared-slice-read-t19
+    mul-t13
+    shared-slice-read-t17
+    add-t14
+    mul-t18
+    shared-slice-read-t20
     touches-requires
-    returns-4
-    touches-requires-2
     returns-5
+    touches-requires-2
+    returns-6
     add-i
     loop-less
     loop-again
-    returns-6)
+    returns-7)

@@ -2,4 +2,5 @@ pub mod Lengths
 pub mod Parts
 pub mod Passing
 pub mod Records
+pub mod Unique
 pub mod Whole

@@ -1,12 +1,11 @@
 -- Document 01, "Trace and listing": the listing, line after line.
-use Prim.Native.Nat.{ℕ, zero, suc, _+_, _-_, _*_, _<_}
+use Prim.Native.Nat.{ℕ, zero, suc, _+_, _-_, _*_, _<_, _≤_}
 use mathlib.Core.Path.{_≡_}
 use mathlib.Core.Bool.{Bool, true, false}
 use mathlib.Core.List.{List, [], _++_}
-use lib.ListN.{length, replicate}
-use lib.Seq.{sets}
+use lib.ListN.{length, drop, replicate}
 use lib.Dec.{leb, ltb}
-use Rattle.kit.specs.Choice.{when}
+use Rattle.kit.specs.Choice.{when, both}
 use Rattle.listing.specs.Line.{lineOf, headerOf}
 use Rattle.record.specs.Claims.{longest}
 use Rattle.trace.specs.declared.session.Mode.{Mode}
@@ -48,17 +47,31 @@ turnsOf (suc n) base input r = turnOn base input (turnsOf n base input r)
 abbrev pub readyIn : List ℕ → Bool → Replay → Bool
 readyIn input ended r = readyOf (r .session .mode) (length input - r .at) ended
 
--- some number of turns was taken, and the buffer holds the text of their lines, as far as it was put
+-- no line is longer: a turn is taken only while the buffer has this room left
+abbrev pub lineRoom : ℕ
+lineRoom = 64
+
+-- a turn can be taken, and a buffer of `size` bytes has room for its line after the text so far
+abbrev pub goesOn : ℕ → List ℕ → Bool → Replay → Bool
+goesOn size input ended r = both (leb (length (r .text) + lineRoom) size) (readyIn input ended r)
+
+-- a pass takes turns as long as it can go on, no fewer and no more, and the buffer holds their text
 pub record Passes (s : Session) (base : ℕ) (input : List ℕ) (ended : Bool) (m w out : List ℕ) (r : Passed) (m′ w′ out′ : List ℕ) : Type 0 where
   pub turns : ℕ
   pub text : List ℕ
-  -- each turn could be taken
-  pub ready : (k : ℕ) → k < turns → readyIn input ended (turnsOf k base input (begin s m w)) ≡ true
+  pub goes : (k : ℕ) → k < turns → goesOn (length out) input ended (turnsOf k base input (begin s m w)) ≡ true
+  pub stops : goesOn (length out) input ended (turnsOf turns base input (begin s m w)) ≡ false
   pub ends : record { session = r .session; at = r .at; memory = m′; windows = w′; text = text } ≡ turnsOf turns base input (begin s m w)
-  pub stored : out′ ≡ sets out 0 text
+  -- all of the text was put, at the buffer's front; the bytes past it are unchanged
   pub put : r .put ≡ length text
-  -- nothing that could be done was left: the buffer is full, or no turn can be taken
-  pub stops : leb (r .put + 64) (length out) ≡ true → readyOf (r .session .mode) (length input - r .at) ended ≡ false
+  pub fits : r .put ≤ length out
+  pub stored : out′ ≡ text ++ drop (r .put) out
+
+-- two results that `Passes` allows for the same call are equal
+abbrev pub PassUnique : Type 0
+PassUnique = (s : Session) (base : ℕ) (input : List ℕ) (ended : Bool) (m w out : List ℕ) (r r′ : Passed) (m₁ w₁ out₁ m₂ w₂ out₂ : List ℕ)
+    → Passes s base input ended m w out r m₁ w₁ out₁ → Passes s base input ended m w out r′ m₂ w₂ out₂
+    → (r ≡ r′) × (m₁ ≡ m₂) × (w₁ ≡ w₂) × (out₁ ≡ out₂)
 
 -- the listing of a whole trace: the header, and turns until none can be taken
 unfoldable pub listFrom : ℕ → List ℕ → Replay → List ℕ

@@ -1,12 +1,17 @@
 use mathlib.Core.Path.{sym, _∙_}
-use Prim.Native.Nat.{_-_}
+use Prim.Native.Nat.{ℕ, _-_, _≤_}
 use native.Mathlib.Omega.{arith}
 use lib.ListN.{length}
 use borrow.Author.Needs.{needs}
 use borrow.Author.Tests.{not-true, not-false}
+use Rattle.listing.proofs.Lines.{line-most}
+use Rattle.trace.specs.Pass.{lineRoom}
 use Rattle.trace.proofs.Passing.{Passing, passing-begin, passing-turn, passing-on, passing-full, passing-stops}
 use Rattle.trace.proofs.pass.pass.Statement.{statement}
 use Rattle.trace.proofs.pass.pass.Tie as tie
+
+below-room : {n : ℕ} → n ≤ 60 → n ≤ lineRoom
+below-room h = omega arith
 
 abbrev Inv-loop : tie.InvT-loop
 Inv-loop base input ended memory₀ windows₀ out₀ last session₀ at₀ put₀ memory windows out session at put = Passing base input ended session₀ memory₀ windows₀ out₀ session at memory windows out put
@@ -53,7 +58,13 @@ loop-less c =
     omega (arith, on, p .room, c .before .before .before .before .before .before .before .before .before .before .before .before .before .before .before .loop-test .taken, c .before .before .before .before .before .before .before .before .before .before .before .before .before .before .before .before .before .if1 .left)
 
 loop-again : tie.Need-loop-again Inv-loop μ-loop
-loop-again c = passing-turn (c .before .before .before .before .before .before .before .before .before .before .before .before .before .before .before .before .loop .inv) (c .before .before .before .before .before .before .before .before .before .before .turn .result) (sym (c .before .before .before .before .before .before .before .before .before .before .before .before .before .before .ready .ensures) ∙ not-false _ (c .before .before .before .before .before .before .before .before .before .before .before .before .before .if2 .left)) (c .before .before .before .before .before .before .before .before .before .before .turn .ensures) (c .before .before .before .put-line .ensures)
+loop-again c =
+    let now = c .before .before .before .before .before .before .before .before .before .before in
+    let seen = now .before .before .before .before in
+    passing-turn (seen .before .before .loop .inv) (now .turn .result) (sym (seen .ready .ensures) ∙ not-false _ (now .before .before .before .if2 .left))
+    (omega (arith, seen .before .loop-test .taken, seen .before .before .before .if1 .left))
+    (below-room (line-most (now .turn .result .line) (omega (arith, now .turn .ok)) (omega (arith, now .turn .ok)) (omega (arith, now .turn .ok))))
+    (now .turn .ensures) (c .before .before .before .put-line .ensures)
 
 same-length : tie.Need-same-length Inv-loop μ-loop
 same-length c = c .before .loop .inv .memory

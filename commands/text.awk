@@ -1,11 +1,13 @@
-# A trace as text: reads the bytes that `od -An -v -tu1` prints, writes the lines that trace.awk takes.
+# A trace as text: reads the bytes that `od -An -v -tu1 -w8192` prints, writes the lines that trace.awk takes.
 # docs/RULES.md 8.2 has the records. Numbers are put together from their bytes, since not every awk prints large ones in hex.
 
-function at(place) { return bytes[(head + place) % 4096] }
+# The byte at a place of the record under way.
+function at(place) { return bytes[head + place] }
 
 function number(place, size,    value) {
-    for (value = 0; size > 0; size--) value = value * 256 + at(place + size - 1)
-    return value
+    place += head
+    value = bytes[place] + 256 * bytes[place + 1]
+    return size == 2 ? value : value + 65536 * (bytes[place + 2] + 256 * bytes[place + 3])
 }
 
 # A number's value, in decimal and in hex without leading zeros.
@@ -25,7 +27,7 @@ function several(count, noun) { return count " " noun (count == 1 ? "" : "s") }
 
 # One line: the record, and after # its position in the trace and what it says.
 function line(text, says) {
-    printf "%-38s # %s: %s\n", text, decimal(head), says
+    printf "%-38s # %.0f: %s\n", text, before + head - 1, says
 }
 
 function bit(value, place) { return int(value / power[place]) % 2 }
@@ -71,12 +73,20 @@ function clock(    bits, text) {
 # ---- Records
 
 # The bytes of an MM record, equal ones in a row as ff*6.
-function data(count,    text, place, times) {
+function data(count,    text, place, stop, times, value) {
     text = ""
-    for (place = 0; place < count; place += times) {
-        for (times = 1; place + times < count && at(12 + place + times) == at(12 + place); times++);
-        if (times < 3) times = 1
-        text = text " " two[at(12 + place)] (times > 1 ? "*" times : "")
+    place = head + 12
+    stop = place + count
+    while (place < stop) {
+        value = bytes[place]
+        for (times = 1; place + times < stop && bytes[place + times] == value; times++);
+        if (times < 3) {
+            text = text " " two[value]
+            place++
+        } else {
+            text = text " " two[value] "*" times
+            place += times
+        }
     }
     return text
 }
@@ -117,10 +127,10 @@ function record(mark,    start) {
 
 # ---- Bytes that are no record: all from the first of them on, since nothing says where the next record would start
 
-function raw(least,    text, count) {
-    while (tail - head > least) {
+function raw(ended,    text, count) {
+    while (head + 15 <= tail || (ended && head <= tail)) {
         text = "RAW"
-        for (count = 0; count < 16 && head + count < tail; count++) text = text " " two[at(count)]
+        for (count = 0; count < 16 && head + count <= tail; count++) text = text " " two[bytes[head + count]]
         if (why == "") print text
         else line(text, why)
         why = ""
@@ -130,18 +140,18 @@ function raw(least,    text, count) {
 
 # Takes each record that is there as a whole; `ended` if no byte follows.
 function take(ended,    mark, size) {
-    while (!lost && head < tail) {
+    while (!lost && head <= tail) {
         size = 0
-        if (tail - head >= 2) {
-            mark = letter[at(0)] letter[at(1)]
+        if (head < tail) {
+            mark = letter[bytes[head]] letter[bytes[head + 1]]
             if (!(mark in sizes)) { lost = 1; why = "not a record from here on: unknown mark"; return }
             size = sizes[mark]
-            if (mark == "MM" && tail - head >= 12) {
+            if (mark == "MM" && head + 11 <= tail) {
                 size += number(10, 2)
                 if (size == 12 || size > 1036) { lost = 1; why = "not a record from here on: MM of " size - 12 " bytes"; return }
             }
         }
-        if (size == 0 || tail - head < size) {
+        if (size == 0 || head + size - 1 > tail) {
             if (ended) { lost = 1; why = "not a record: cut short" }
             return
         }
@@ -160,19 +170,24 @@ BEGIN {
     names[12] = "CURDESC upper half"; names[20] = "TAILDESC upper half"; names[28] = "SA upper half"; names[36] = "DA upper half"
     split("length size burst cache prot qos region", fields, " ")
     kinds[0] = "fixed"; kinds[1] = "incrementing"; kinds[2] = "wrapping"; kinds[3] = "burst 3"
-    head = 0
+    head = 1
     tail = 0
+    before = 0
     lost = 0
     print "# A trace as text: ./belikumba trace makes the trace again. After each # is the record's position."
 }
 
-# The ring of 4,096 bytes has room for the longest record, 1,036 bytes, and one line of od.
+# The bytes of this line, behind what was left of the last one; `before` bytes of the trace came before the first of them.
 {
-    for (i = 1; i <= NF; i++) bytes[tail++ % 4096] = $i
+    rest = ""
+    for (i = head; i <= tail; i++) rest = rest bytes[i] " "
+    before += head - 1
+    tail = split(rest $0, bytes, " ")
+    head = 1
     take(0)
-    if (lost) raw(15)
+    if (lost) raw(0)
 }
 END {
     take(1)
-    raw(0)
+    raw(1)
 }

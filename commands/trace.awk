@@ -1,4 +1,4 @@
-# A trace from its text: writes the bytes of each record as decimal numbers, a line a record; the caller makes bytes of them.
+# A trace from its text: writes the bytes of each record as decimal numbers; the caller makes bytes of them.
 # `./belikumba help trace` says how a text is written. A wrong line is named by its number with what was expected.
 
 function fail(expected) {
@@ -22,25 +22,31 @@ function number(text, most, what,    base, start, value, at, digit) {
 
 function put(value, size) {
     for (; size > 0; size--) {
-        out = out " " value % 256
+        printf " %d", value % 256
         value = int(value / 256)
     }
 }
 function word(text, what) { put(number(text, 4294967295, what), 4) }
 function half(text, what) { put(number(text, 65535, what), 2) }
 
-# Bytes in hex from a field on, ff*6 for six of them; gives their number.
-function data(from,    at, star, times, text, count) {
+# The number of bytes in hex from a field on, ff*6 for six of them; then the bytes.
+function count_data(from,    at, star, count) {
     count = 0
     for (at = from; at <= NF; at++) {
         star = index($at, "*")
-        times = star ? number(substr($at, star + 1), 65535, "the times of a byte") : 1
-        text = tolower(star ? substr($at, 1, star - 1) : $at)
-        if (!(text in byte)) fail("a byte in hex, as 0f or 0f*6, and not '" $at "'")
-        count += times
-        for (; times > 0; times--) out = out " " byte[text]
+        times[at] = star ? number(substr($at, star + 1), 65535, "the times of a byte") : 1
+        if (star) $at = substr($at, 1, star - 1)
+        if (!($at in byte)) $at = tolower($at)
+        if (!($at in byte)) fail("a byte in hex, as 0f or 0f*6, and not '" $at "'")
+        count += times[at]
     }
     return count
+}
+function put_data(from,    at, text) {
+    for (at = from; at <= NF; at++) {
+        text = " " byte[$at]
+        for (; times[at] > 0; times[at]--) printf "%s", text
+    }
 }
 
 # Takes the name=value parts from a field on.
@@ -56,7 +62,7 @@ function named(from, known,    at, place, name) {
 }
 function given(name) { return name in value ? value[name] : "0" }
 
-function memory(    before, count, bytes) {
+function memory(    count) {
     word($3, "address")
     if (NF >= 4 && index($4, "=") > 0) {
         named(4, "next source destination control status")
@@ -67,15 +73,10 @@ function memory(    before, count, bytes) {
         word(given("control"), "control"); word(given("status"), "status")
         return
     }
-    # The length comes before the bytes and is known after them.
-    before = out
-    out = ""
-    count = data(4)
-    bytes = out
-    out = before
+    count = count_data(4)
     if (count > 65535) fail("at most 65535 bytes, and not " count)
     put(count, 2)
-    out = out bytes
+    put_data(4)
 }
 
 function bus(    count, at, names) {
@@ -107,16 +108,16 @@ FNR == 1 { sub(/^\357\273\277/, "") }
     sub(/#.*/, "")
 }
 NF == 0 { next }
-{ out = "" }
 $1 == "RAW" {
-    data(2)
-    print out
+    count_data(2)
+    put_data(2)
+    print ""
     next
 }
 !($1 in marks) { fail("CF, MM, SW, WR, RD, ST, AR or RAW at the start of a line, and not '" $1 "'") }
 NF < 2 || (parts[$1] && NF != parts[$1]) || ($1 == "MM" && NF < 3) { fail(shape[$1] ", and not " NF " parts") }
 {
-    out = marks[$1]
+    printf "%s", marks[$1]
     word($2, "sequence number")
 }
 $1 == "CF" { half($3, "width"); half($4, "beats") }
@@ -126,5 +127,5 @@ $1 == "WR" { half($3, "offset"); word($4, "value") }
 $1 == "RD" { half($3, "offset") }
 $1 == "ST" { half($3, "steps") }
 $1 == "AR" { bus() }
-{ print out }
+{ print "" }
 END { if (failed) exit 2 }

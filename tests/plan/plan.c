@@ -1,5 +1,5 @@
 /*
- * Compares belikumba_plan with a cutter written here from document 01 alone: the answer, the number of bursts and
+ * Compares belikumba_plan with a cutter written here from docs/RULES.md 3 alone: the answer, the number of bursts and
  * every lent byte. Each plan is made with room to spare, with just enough, and with too little.
  *
  * The lent bytes end or start at a page that may not be touched, and the bytes on their other side are watched.
@@ -25,7 +25,7 @@ static const uint64_t address_end = UINT64_C(1) << 32;
 static const uint32_t widths[] = {4, 8, 16, 32, 64, 128};
 static const uint32_t beat_counts[] = {2, 4, 8, 16, 32, 64, 128, 256};
 
-/* ---- Document 01, "Cutting a transfer", read as slowly as it is written ---- */
+/* ---- RULES.md 3, "Cutting a transfer", read as slowly as it is written ---- */
 
 struct burst {
     uint64_t start;
@@ -97,7 +97,7 @@ static uint64_t reach_by_halves(struct transfer t, uint64_t a) {
 /* Up to this many bytes a transfer is cut by both readings, which have to agree; past it by halves alone. */
 static const uint64_t cut_by_bytes = 70000;
 
-/* The shortest full bursts are two words of 4 bytes, so that this is about twice what the largest plan has. */
+/* The shortest full bursts are two words of 4 bytes, so this is about twice what the largest plan has. */
 enum { MOST_BURSTS = 8388607 / 4 };
 
 static struct burst *bursts;
@@ -125,7 +125,7 @@ static void cut(struct transfer t) {
     }
 }
 
-/* Answers in the order of document 01: 1, 7, 8. To be called after cut(). */
+/* Answers in the order of RULES.md 2.2: 1, 7, 8. To be called after cut(). */
 static uint32_t answer_of(struct transfer t, size_t length) {
     if (!settings_listed(t)) {
         return 1;
@@ -176,7 +176,7 @@ static uint64_t random_below(uint64_t limit) {
     return random_number() % limit;
 }
 
-/* Fills both with the same bytes, others at each call, so that a byte that should have stayed shows if it did not. */
+/* Fills both with the same bytes, others at each call, so a byte that should have stayed shows if it did not. */
 static void fill_alike(uint8_t *one, uint8_t *other, size_t length) {
     size_t at = 0;
     while (at < length) {
@@ -199,7 +199,7 @@ static void fail(struct transfer t, size_t length, const char *what, uint64_t wa
     exit(1);
 }
 
-/* The call under way, to be named where it does not come back. */
+/* The call under way, to be named if it does not come back. */
 static struct transfer called;
 static size_t called_length;
 
@@ -301,7 +301,7 @@ static struct transfer transfer(uint32_t width, uint32_t beats, uint64_t start, 
     return (struct transfer){width, beats, (uint32_t)start, (uint32_t)count};
 }
 
-/* The worked cases of document 01, so that this test's own cutter is held to them too. */
+/* The worked cases of RULES.md 10, so this test's own cutter is compared with them too. */
 static void check_worked_cases(void) {
     static const struct {
         struct transfer transfer;
@@ -468,7 +468,7 @@ int main(void) {
         }
     }
     printf("plan: %" PRIu64 " calls on %" PRIu64 " transfers gave the answer, the count and each of the %" PRIu64
-           " lent bytes that document 01 says\n"
+           " lent bytes that docs/RULES.md says\n"
            "plan: %" PRIu64 " plans of %" PRIu64 " bursts in all, legal and each following the last; answer 1 %" PRIu64
            " times, 7 %" PRIu64 " times, 8 %" PRIu64 " times\n",
            compared.calls, compared.transfers, compared.bytes, compared.answers[0], compared.bursts, compared.answers[1],

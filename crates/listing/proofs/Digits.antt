@@ -1,7 +1,8 @@
--- The decimal digits of a number are right: they read back as the number, each is a digit, and no zero stands in front.
-use mathlib.Core.Path.{_≡_, refl, ap, _∙_}
+-- The decimal digits of a number are right: they read back as the number, each is a digit, and no needless zero is in front.
+-- No other text in decimal is of the same number.
+use mathlib.Core.Path.{_≡_, refl, sym, ap, ap₂, _∙_}
 use mathlib.Core.Bool.{Bool, true, false}
-use mathlib.Core.List.{List, [], _∷_, _++_}
+use mathlib.Core.List.{List, [], _∷_, _++_, append-assoc, append-nil}
 use Prim.Native.Nat.{ℕ, zero, suc, _+_, _-_, _*_, _/_, _%_, _^_, _≤_, _<_}
 use native.Mathlib.Omega.{arith}
 use native.Mathlib.Nat.{not-suc-le-zero}
@@ -111,11 +112,46 @@ digits-front v =
     (rest (omega arith)))
     v
 
+front-alone : (v : ℕ) → getD (digitsOf v) 0 0 ≡ 48 → length (digitsOf v) ≡ 1
+front-alone v e = go (ltb v 10) refl
+  where
+    go : (t : Bool) → ltb v 10 ≡ t → length (digitsOf v) ≡ 1
+    go true s = ap length (digits-small v (ltb-true v 10 s))
+    go false s = let big : 10 ≤ v = ltb-false v 10 s in absurd (omega (arith, digits-front v (omega arith)))
+
 -- ---- in one claim
 
 pub digits-right : (v : ℕ) → InDecimal v (digitsOf v)
 digits-right v = record {
-  reads = digits-read v;
+  some = digits-some v;
   digits = digits-each v;
-  front = λ big e. let high : 49 ≤ getD (digitsOf v) 0 0 = digits-front v (omega arith) in omega arith;
+  reads = digits-read v;
+  front = front-alone v;
 }
+
+-- ---- no other text
+
+digits-on : (n : ℕ) (ds : List ℕ) → 1 ≤ n → Every Digit ds → digitsOf (readOn n ds) ≡ digitsOf n ++ ds
+digits-on n [] some h = sym (append-nil (digitsOf n))
+digits-on n (d ∷ ds) some h =
+    let low : 48 ≤ d = h .0 .0 in
+    let high : d ≤ 57 = h .0 .1 in
+    digits-on (10 * n + (d - 48)) ds (omega arith) (h .1)
+    ∙ ap (λ (l : List ℕ). l ++ ds)
+    (digits-step (10 * n + (d - 48)) (omega arith) ∙ ap₂ (λ (x y : ℕ). digitsOf x ++ (y ∷ [])) (omega arith) (omega arith))
+    ∙ append-assoc (digitsOf n) (d ∷ []) ds
+
+one-digit : (d : ℕ) → Digit d → digitsOf (d - 48) ≡ d ∷ []
+one-digit d (low, high) = digits-small (d - 48) (omega arith) ∙ ap (λ (x : ℕ). x ∷ []) (omega arith)
+
+pub digits-only : {v : ℕ} (ds : List ℕ) → InDecimal v ds → ds ≡ digitsOf v
+digits-only [] t = absurd (not-suc-le-zero (t .some))
+digits-only (d ∷ []) t = sym (one-digit d (t .digits .0)) ∙ ap digitsOf (omega (arith, t .reads))
+digits-only (d ∷ e ∷ ds) t =
+    let low : 48 ≤ d = t .digits .0 .0 in
+    sym (digits-on (10 * 0 + (d - 48)) (e ∷ ds) (some d low (λ z. omega (arith, t .front z))) (t .digits .1)
+    ∙ ap (λ (l : List ℕ). l ++ (e ∷ ds)) (ap digitsOf (omega arith) ∙ one-digit d (t .digits .0)))
+    ∙ ap digitsOf (t .reads)
+  where
+    some : (d : ℕ) → 48 ≤ d → (d ≡ 48 → ⊥) → 1 ≤ 10 * 0 + (d - 48)
+    some d h n = omega arith

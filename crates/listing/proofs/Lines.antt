@@ -5,7 +5,7 @@ use mathlib.Core.List.{List, [], _∷_, _++_, append-assoc, append-nil}
 use Prim.Native.Nat.{ℕ, _+_, _-_, _^_, _≤_, _<_}
 use native.Mathlib.Omega.{arith}
 use lib.Dec.{leb}
-use lib.ListN.{length, set, take, drop, length-append, length-drop, drop-of-length-le}
+use lib.ListN.{length, take, drop, length-append, length-drop, drop-of-length-le}
 use lib.Seq.{sets, sets-eq, drop-drop, length-take-le}
 use borrow.Rule.Slice.PartMut.{putMid}
 use borrow.Author.Tests.{leb-true}
@@ -13,7 +13,7 @@ use Rattle.kit.proofs.Choice.{both-left, both-right}
 use Rattle.kit.proofs.Lists.{each}
 use Rattle.listing.specs.declared.line.Line.{Line}
 use Rattle.listing.specs.Decimal.{digitsOf, Every}
-use Rattle.listing.specs.Word.{blank, wordOf, spacedOf, zerosOf, paddedOf}
+use Rattle.listing.specs.Word.{blank, wordOf, spacedOf, zerosOf, eightOf}
 use Rattle.listing.specs.Line.{lineFeed, lineOf, headerOf}
 use Rattle.listing.specs.Puts.{Puts}
 use Rattle.listing.proofs.Sets.{sets-cover}
@@ -23,39 +23,35 @@ use Rattle.listing.proofs.Words.{spaced-most, letters-small}
 
 -- ---- how a line is put
 
--- what follows the word and its blanks
-abbrev restOf : Line → List ℕ
-restOf l = digitsOf (l .first) ++ (blank ∷ digitsOf (l .second) ++ (lineFeed ∷ []))
+-- a number and the byte that closes it
+abbrev pub closedOf : ℕ → ℕ → List ℕ
+closedOf v e = digitsOf v ++ (e ∷ [])
 
-line-parts : (l : Line) → digitsOf (l .sequence) ++ (spacedOf (l .word) ++ restOf l) ≡ lineOf l
+pub closed-length : (v e : ℕ) → length (closedOf v e) ≡ length (digitsOf v) + 1
+closed-length v e = length-append (digitsOf v) (e ∷ [])
+
+-- what follows the word and its blank
+abbrev restOf : Line → List ℕ
+restOf l = closedOf (l .first) blank ++ closedOf (l .second) lineFeed
+
+line-parts : (l : Line) → closedOf (l .sequence) blank ++ (spacedOf (l .word) ++ restOf l) ≡ lineOf l
 unfolding lineOf
-line-parts l =
-    ap (λ (s : List ℕ). digitsOf (l .sequence) ++ (blank ∷ s)) (append-assoc (wordOf (l .word)) (blank ∷ []) (restOf l))
+line-parts l = simp append-assoc
 
 rest-length : (l : Line) → length (restOf l) ≡ length (digitsOf (l .first)) + length (digitsOf (l .second)) + 2
 rest-length l = simp length-append (omega arith)
 
--- the zeros after a word are fewer than the bytes that follow it
+-- the zeros after a word are no more than the bytes that follow it
 zeros-covered : (l : Line) → length (zerosOf (l .word)) ≤ length (restOf l)
 zeros-covered l =
-    omega (arith, length-drop {A = ℕ} (length (wordOf (l .word)) - 3) (0 ∷ 0 ∷ 0 ∷ []), rest-length l, digits-some (l .first), digits-some (l .second))
+    omega (arith, length-drop {A = ℕ} (length (wordOf (l .word)) - 3) (0 ∷ 0 ∷ 0 ∷ 0 ∷ []), rest-length l, digits-some (l .first), digits-some (l .second))
 
-rest-put : (l : Line) {m m₁ m₂ : List ℕ} {at a b : ℕ} → Puts m m₁ at a (digitsOf (l .first))
-    → Puts (set m₁ a blank) m₂ (a + 1) b (digitsOf (l .second)) → Puts m (set m₂ b lineFeed) at (b + 1) (restOf l)
-rest-put l {m} {m₁} {m₂} {at} {a} {b} p q =
-    subst (Puts m (set m₂ b lineFeed) at (b + 1))
-    (append-assoc (digitsOf (l .first) ++ (blank ∷ [])) (digitsOf (l .second)) (lineFeed ∷ [])
-    ∙ append-assoc (digitsOf (l .first)) (blank ∷ []) (digitsOf (l .second) ++ (lineFeed ∷ [])))
-    (puts-then (lineFeed ∷ []) refl
-    (puts-then (digitsOf (l .second)) (q .past) (puts-then (blank ∷ []) refl p refl) (q .stored))
-    refl)
-
-pub line-put : (l : Line) {m m₁ m₂ m₃ m₄ : List ℕ} {at a b c d : ℕ} → Puts m m₁ at a (digitsOf (l .sequence))
-    → b ≡ a + length (spacedOf (l .word)) → m₂ ≡ sets m₁ a (paddedOf (l .word)) → Puts m₂ m₃ b c (digitsOf (l .first))
-    → Puts (set m₃ c blank) m₄ (c + 1) d (digitsOf (l .second)) → Puts m (set m₄ d lineFeed) at (d + 1) (lineOf l)
+pub line-put : (l : Line) {m m₁ m₂ m₃ m₄ : List ℕ} {at a b c d : ℕ} → Puts m m₁ at a (closedOf (l .sequence) blank)
+    → b ≡ a + length (spacedOf (l .word)) → m₂ ≡ sets m₁ a (eightOf (l .word)) → Puts m₂ m₃ b c (closedOf (l .first) blank)
+    → Puts m₃ m₄ c d (closedOf (l .second) lineFeed) → Puts m m₄ at d (lineOf l)
 line-put l {m} {m₁} {m₂} {m₃} {m₄} {at} {a} {b} {c} {d} p e s q r =
-    let rest : Puts m₂ (set m₄ d lineFeed) b (d + 1) (restOf l) = rest-put l q r in
-    subst (Puts m (set m₄ d lineFeed) at (d + 1)) (line-parts l)
+    let rest : Puts m₂ m₄ b d (restOf l) = puts-then (closedOf (l .second) lineFeed) (r .past) q (r .stored) in
+    subst (Puts m m₄ at d) (line-parts l)
     (puts-then (spacedOf (l .word) ++ restOf l)
     (omega (arith, rest .past, e, length-append (spacedOf (l .word)) (restOf l)))
     p
@@ -98,7 +94,7 @@ line-some l = omega (arith, line-length l, digits-some (l .sequence), digits-som
 -- the most bytes of each part of a line
 pub record Parts (l : Line) : Type 0 where
   pub sequence : length (digitsOf (l .sequence)) ≤ 10
-  pub word : length (spacedOf (l .word)) ≤ 8
+  pub word : length (spacedOf (l .word)) ≤ 7
   pub first : length (digitsOf (l .first)) ≤ 20
   pub second : length (digitsOf (l .second)) ≤ 20
 

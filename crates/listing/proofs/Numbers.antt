@@ -1,48 +1,49 @@
--- The stores of src/decimal.rt are those of the digits.
-use mathlib.Core.Path.{_≡_, refl, sym, ap, ap₂, _∙_}
-use mathlib.Core.List.{List}
-use Prim.Native.Nat.{ℕ, suc, _+_, _/_, _%_, _^_, _≤_, _<_}
+-- The stores of src/decimal.rt are those of the digits and of the closing byte.
+use mathlib.Core.Path.{_≡_, refl, sym, ap, ap₂, subst, _∙_}
+use mathlib.Core.List.{List, [], _∷_, _++_, append-assoc}
+use Prim.Native.Nat.{ℕ, _+_, _/_, _%_, _^_, _≤_, _<_}
 use native.Mathlib.Omega.{arith}
-use native.Mathlib.Numerals.{add-one}
-use lib.ListN.{set}
+use lib.ListN.{length, length-append}
 use lib.Seq.{sets}
-use Rattle.memory.proofs.Stores.{sets-append}
 use Rattle.listing.specs.Decimal.{digitsOf, lastDigits}
-use Rattle.listing.specs.Puts.{Puts}
-use Rattle.listing.proofs.Digits.{digits-small}
-use Rattle.listing.proofs.Split.{last-length, last-split, digits-split, digits-whole}
-use Rattle.listing.proofs.Puts.{puts-then}
+use Rattle.listing.specs.Puts.{Puts, Starts}
+use Rattle.listing.proofs.Sets.{sets-cover}
+use Rattle.listing.proofs.Split.{last-length, last-split, digits-split}
+use Rattle.listing.proofs.Puts.{starts-then, puts-start}
 
-pub pair-put : (m : List ℕ) (at v : ℕ) {a b : ℕ} → v < 100 → a ≡ 48 + v / 10 → b ≡ 48 + v % 10
-    → set (set m at a) (at + 1) b ≡ sets m at (lastDigits 2 v)
-unfolding lastDigits
-pair-put m at v {a} {b} h e f =
-    ap (λ (i : ℕ). set (set m at a) i b) (add-one at)
-    ∙ ap₂ (λ (x y : ℕ). set (set m at x) (suc at) y) (e ∙ ap (λ (d : ℕ). 48 + d) (tens v h)) f
-  where
-    tens : (v : ℕ) → v < 100 → v / 10 ≡ v / 10 % 10
-    tens v h = omega arith
+closed-length : (k v e : ℕ) → length (lastDigits k v ++ (e ∷ [])) ≡ k + 1
+closed-length k v e = length-append (lastDigits k v) (e ∷ []) ∙ ap (λ (n : ℕ). n + 1) (last-length k v)
 
--- the first digits, and then the k last
-pub last-put : (k a v : ℕ) (m : List ℕ) (at : ℕ) {m₁ m₂ : List ℕ} → m₁ ≡ sets m at (lastDigits a (v / 10 ^ k))
-    → m₂ ≡ sets m₁ (at + a) (lastDigits k (v % 10 ^ k)) → m₂ ≡ sets m at (lastDigits (a + k) v)
-last-put k a v m at {m₁} {m₂} p s =
+-- the first a digits, and then the k last, which cover the byte that closed those
+pub last-put : (k a v d e : ℕ) (m : List ℕ) (at : ℕ) {m₁ m₂ : List ℕ} → m₁ ≡ sets m at (lastDigits a (v / 10 ^ k) ++ (d ∷ []))
+    → m₂ ≡ sets m₁ (at + a) (lastDigits k (v % 10 ^ k) ++ (e ∷ [])) → m₂ ≡ sets m at (lastDigits (a + k) v ++ (e ∷ []))
+last-put k a v d e m at {m₁} {m₂} p s =
+    let high = lastDigits a (v / 10 ^ k) in
+    let low = lastDigits k (v % 10 ^ k) in
     s
-    ∙ ap₂ (λ (l : List ℕ) (n : ℕ). sets l (at + n) (lastDigits k (v % 10 ^ k))) p (sym (last-length a (v / 10 ^ k)))
-    ∙ sym (sets-append m at (lastDigits a (v / 10 ^ k)) (lastDigits k (v % 10 ^ k)))
-    ∙ ap (sets m at) (sym (last-split k v a))
+    ∙ ap₂ (λ (l : List ℕ) (n : ℕ). sets l (at + n) (low ++ (e ∷ []))) p (sym (last-length a (v / 10 ^ k)))
+    ∙ sets-cover m at high (d ∷ []) (low ++ (e ∷ [])) (omega (arith, closed-length k (v % 10 ^ k) e))
+    ∙ ap (sets m at) (sym (append-assoc high low (e ∷ [])) ∙ ap (λ (l : List ℕ). l ++ (e ∷ [])) (sym (last-split k v a)))
 
-pub number-put : (k v : ℕ) {m m₁ m₂ : List ℕ} {at n r : ℕ} → 1 ≤ v / 10 ^ k → r ≡ n + k → Puts m m₁ at n (digitsOf (v / 10 ^ k))
-    → m₂ ≡ sets m₁ n (lastDigits k (v % 10 ^ k)) → Puts m m₂ at r (digitsOf v)
-number-put k v {n = n} some e p s =
-    rw (digits-split k v some)
-    (puts-then (lastDigits k (v % 10 ^ k)) (e ∙ ap (λ (i : ℕ). n + i) (sym (last-length k (v % 10 ^ k)))) p s)
+pub nine-put : (v e : ℕ) (m : List ℕ) (at : ℕ) {m₁ m₂ m₃ : List ℕ} → m₁ ≡ sets m at (lastDigits 3 (v / 1000000) ++ (0 ∷ []))
+    → m₂ ≡ sets m₁ (at + 3) (lastDigits 3 (v / 1000 % 1000) ++ (0 ∷ [])) → m₃ ≡ sets m₂ (at + 6) (lastDigits 3 (v % 1000) ++ (e ∷ []))
+    → m₃ ≡ sets m at (lastDigits 9 v ++ (e ∷ []))
+nine-put v e m at p q s =
+    last-put 3 6 v 0 e m at
+    (last-put 3 3 (v / 1000) 0 0 m at (p ∙ ap (λ (x : ℕ). sets m at (lastDigits 3 x ++ (0 ∷ []))) (omega arith)) q)
+    s
 
-pub small-put : (m : List ℕ) (at v : ℕ) {d : ℕ} → v < 10 → d ≡ 48 + v → Puts m (set m at d) at (at + 1) (digitsOf v)
-small-put m at v h e = rw (digits-small v h) (record { past = refl; stored = ap (set m at) e })
+module _ (k v e : ℕ) {m m₁ m₂ : List ℕ} {at n : ℕ} (many : 3 ≤ k) (some : 1 ≤ v / 10 ^ k) (p : Starts m m₁ at n (digitsOf (v / 10 ^ k)))
+    (s : m₂ ≡ sets m₁ n (lastDigits k (v % 10 ^ k) ++ (e ∷ []))) where
+  -- the first digits, and then the k last with the closing byte
+  pub number-put : {r : ℕ} → r ≡ n + (k + 1) → Puts m m₂ at r (digitsOf v ++ (e ∷ []))
+  number-put {r} past =
+      let low = lastDigits k (v % 10 ^ k) in
+      let size = closed-length k (v % 10 ^ k) e in
+      subst (Puts m m₂ at r)
+      (sym (append-assoc (digitsOf (v / 10 ^ k)) low (e ∷ [])) ∙ ap (λ (l : List ℕ). l ++ (e ∷ [])) (sym (digits-split k v some)))
+      (starts-then (low ++ (e ∷ [])) (omega (arith, size)) (omega (arith, size)) p s)
 
--- a number of just k + 1 digits
-pub whole-put : (k v : ℕ) {m m₁ : List ℕ} {at : ℕ} → 1 ≤ v / 10 ^ k → v / 10 ^ k < 10 → m₁ ≡ sets m at (lastDigits (1 + k) v)
-    → Puts m m₁ at (at + (1 + k)) (digitsOf v)
-whole-put k v {at = at} some h s =
-    rw (digits-whole k v some h) (record { past = ap (λ (i : ℕ). at + i) (sym (last-length (1 + k) v)); stored = s })
+  -- the same, with a byte too many
+  pub number-start : {r : ℕ} → r ≡ n + k → Starts m m₂ at r (digitsOf v)
+  number-start {r} past = puts-start (digitsOf v) e (omega arith) (number-put refl)

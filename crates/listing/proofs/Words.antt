@@ -12,10 +12,10 @@ use Rattle.kit.proofs.Lists.{each}
 use Rattle.memory.proofs.Stores.{sets-append}
 use Rattle.listing.specs.declared.word.Word.{Word}
 use Rattle.listing.specs.declared.word.Word.the-variants.{Set, Memory, Window, Write, Read, NoRead, Bus, Fetch, Move, Fault, Update, Halt, Stop, Bad}
-use Rattle.listing.specs.Word.{blank, wordOf, spacedOf, paddedOf}
+use Rattle.listing.specs.Word.{blank, wordOf, spacedOf, eightOf}
 
 -- two words of four bytes hold the eight
-halves : (w : Word) → bytesOf (wordAt (paddedOf w) 0) ++ bytesOf (wordAt (paddedOf w) 4) ≡ paddedOf w
+halves : (w : Word) → bytesOf (wordAt (eightOf w) 0) ++ bytesOf (wordAt (eightOf w) 4) ≡ eightOf w
 halves Set = refl
 halves Memory = refl
 halves Window = refl
@@ -31,15 +31,15 @@ halves Halt = refl
 halves Stop = refl
 halves Bad = refl
 
-pub word-put : (w : Word) (m : List ℕ) (at : ℕ) {m₁ m₂ : List ℕ} {a b : ℕ} → a ≡ wordAt (paddedOf w) 0 → b ≡ wordAt (paddedOf w) 4
-    → m₁ ≡ sets m at (bytesOf a) → m₂ ≡ sets m₁ (at + 4) (bytesOf b) → m₂ ≡ sets m at (paddedOf w)
+pub word-put : (w : Word) (m : List ℕ) (at : ℕ) {m₁ m₂ : List ℕ} {a b : ℕ} → a ≡ wordAt (eightOf w) 0 → b ≡ wordAt (eightOf w) 4
+    → m₁ ≡ sets m at (bytesOf a) → m₂ ≡ sets m₁ (at + 4) (bytesOf b) → m₂ ≡ sets m at (eightOf w)
 word-put w m at {m₁} {m₂} {a} {b} e f p s =
     s
     ∙ ap (λ (l : List ℕ). sets l (at + 4) (bytesOf b)) p
     ∙ sym (sets-append m at (bytesOf a) (bytesOf b))
     ∙ ap (sets m at) (ap₂ (λ (x y : ℕ). bytesOf x ++ bytesOf y) e f ∙ halves w)
 
--- a word has three to six letters, so its blanks make it five to eight
+-- a word has at most six letters: there is room for seven
 letters-most : (w : Word) → length (wordOf w) ≤ 6
 letters-most Set = omega arith
 letters-most Memory = omega arith
@@ -56,7 +56,7 @@ letters-most Halt = omega arith
 letters-most Stop = omega arith
 letters-most Bad = omega arith
 
-pub spaced-most : (w : Word) → length (spacedOf w) ≤ 8
+pub spaced-most : (w : Word) → length (spacedOf w) ≤ 7
 spaced-most w = omega (arith, letters-most w, length-append (wordOf w) (blank ∷ []))
 
 -- every letter is a small one

@@ -1,9 +1,9 @@
--- Document 01, "Trace and listing": a number in decimal, without padding, in ASCII: the character of the digit d is 48 + d.
+-- RULES.md, "Trace and listing": a number in decimal, without padding, in ASCII: the character of the digit d is 48 + d.
 use Prim.Native.Nat.{ℕ, zero, suc, _+_, _-_, _*_, _/_, _%_, _≤_}
 use mathlib.Core.Path.{_≡_}
 use mathlib.Core.List.{List, [], _∷_, _++_}
 use lib.Dec.{ltb}
-use lib.ListN.{getD}
+use lib.ListN.{length, getD}
 use Rattle.kit.specs.Choice.{when}
 
 -- v's digits, the highest first, where `fuel` is above v
@@ -33,8 +33,10 @@ abbrev pub Every : (ℕ → Type 0) → List ℕ → Type 0
 Every P [] = Unit {0}
 Every P (x ∷ xs) = P x × Every P xs
 
--- what the digits of v are, in plain terms: they read as v, each is a digit, and none in front is a needless zero
+-- a text in decimal of v, in plain terms: it has a digit, each of its letters is one, it reads as v, and a zero in front
+-- is its only digit
 pub record InDecimal (v : ℕ) (ds : List ℕ) : Type 0 where
-  pub reads : numberRead ds ≡ v
+  pub some : 1 ≤ length ds
   pub digits : Every (λ (d : ℕ). (48 ≤ d) × (d ≤ 57)) ds
-  pub front : 10 ≤ v → getD ds 0 0 ≡ 48 → ⊥
+  pub reads : numberRead ds ≡ v
+  pub front : getD ds 0 0 ≡ 48 → length ds ≡ 1

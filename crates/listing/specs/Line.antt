@@ -1,4 +1,4 @@
--- Document 01, "Trace and listing": a line, and the header line, in ASCII.
+-- RULES.md, "Trace and listing": a line, and the header line, in ASCII.
 use Prim.Native.Nat.{ℕ}
 use mathlib.Core.List.{List, [], _∷_, _++_}
 use Rattle.listing.specs.declared.line.Line.{Line}

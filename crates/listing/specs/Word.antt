@@ -1,4 +1,4 @@
--- Document 01, "Trace and listing": the words of the lines, in ASCII.
+-- RULES.md, "Trace and listing": the words of the lines, in ASCII.
 use Prim.Native.Nat.{ℕ, _-_}
 use mathlib.Core.List.{List, [], _∷_, _++_}
 use lib.ListN.{length, drop}
@@ -38,13 +38,13 @@ wordOf Stop = 115 ∷ 116 ∷ 111 ∷ 112 ∷ []
 -- bad
 wordOf Bad = 98 ∷ 97 ∷ 100 ∷ []
 
--- the word between its two blanks
+-- the word and the blank after it
 abbrev pub spacedOf : Word → List ℕ
-spacedOf w = blank ∷ wordOf w ++ (blank ∷ [])
+spacedOf w = wordOf w ++ (blank ∷ [])
 
--- zeros after it, to eight bytes
+-- zeros after them, to eight bytes: a word has three to seven letters
 abbrev pub zerosOf : Word → List ℕ
-zerosOf w = drop (length (wordOf w) - 3) (0 ∷ 0 ∷ 0 ∷ [])
+zerosOf w = drop (length (wordOf w) - 3) (0 ∷ 0 ∷ 0 ∷ 0 ∷ [])
 
-abbrev pub paddedOf : Word → List ℕ
-paddedOf w = spacedOf w ++ zerosOf w
+abbrev pub eightOf : Word → List ℕ
+eightOf w = spacedOf w ++ zerosOf w

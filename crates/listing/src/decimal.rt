@@ -1,95 +1,187 @@
-// Document 01, "Trace and listing": a number in decimal, without padding. The digits go straight to their places: a branch
-// by size finds how many there are, and every divisor is a constant.
+// RULES.md, "Trace and listing": a number in decimal, without padding, and one byte that closes it. Its digits come from the
+// lent tables, three at a time. A store of four bytes may leave up to three bytes after its digits: the next one covers them.
+use kit::word::store;
 ghost use mathlib.Core.Path.{_≡_};
-ghost use Prim.Native.Nat.{_+_, _≤_, _<_, _^_};
+ghost use mathlib.Core.List.{[], _∷_, _++_};
+ghost use Prim.Native.Nat.{_+_, _/_, _%_, _≤_, _<_, _^_};
 ghost use lib.ListN.{length};
 ghost use lib.Seq.{sets};
 ghost use Rattle.listing.specs.Decimal.{digitsOf, lastDigits};
-ghost use Rattle.listing.specs.Puts.{Puts};
+ghost use Rattle.listing.specs.Puts.{Puts, Starts};
+ghost use Rattle.listing.specs.Tables.{leadingOf, paddedOf, Tables};
 
-fn digit(value: u32) -> u8
-    requires { ⌜ value < 10 ⌝ }
-    ensures { λ r. ⌜ r ≡ 48 + value ⌝ }
+fn leading_entry(leading: &[u32; 1000], padded: &[u32; 1000], value: u32) -> u32
+    requires { ⌜ Tables (now leading) (now padded) ⌝ }
+    requires { ⌜ value < 1000 ⌝ }
+    ensures { λ r. ⌜ r ≡ leadingOf value ⌝ }
 {
-    b'0' + value as u8
+    let index = value as usize;
+    leading[index]
 }
 
-fn put_two(out: &mut [u8], at: usize, value: u32)
-    requires { ⌜ (at + 2 ≤ length (now out)) × (value < 10 ^ 2) ⌝ }
-    ensures { λ _. ⌜ now (out .exit) ≡ sets (now (out .entry)) at (lastDigits 2 value) ⌝ }
+fn padded_entry(leading: &[u32; 1000], padded: &[u32; 1000], value: u32) -> u32
+    requires { ⌜ Tables (now leading) (now padded) ⌝ }
+    requires { ⌜ value < 1000 ⌝ }
+    ensures { λ r. ⌜ r ≡ paddedOf value ⌝ }
 {
-    out[at] = digit(value / 10);
-    out[at + 1] = digit(value % 10);
+    let index = value as usize;
+    padded[index]
 }
 
-fn put_four(out: &mut [u8], at: usize, value: u32)
-    requires { ⌜ (at + 4 ≤ length (now out)) × (value < 10 ^ 4) ⌝ }
-    ensures { λ _. ⌜ now (out .exit) ≡ sets (now (out .entry)) at (lastDigits 4 value) ⌝ }
+fn put_pair(out: &mut [u8], at: usize, word: u32)
+    requires { ⌜ at + 2 ≤ length (now out) ⌝ }
+    ensures { λ _. ⌜ now (out .exit) ≡ sets (now (out .entry)) at (word % 256 ∷ word / 256 % 256 ∷ []) ⌝ }
 {
-    put_two(out, at, value / 100);
-    put_two(out, at + 2, value % 100);
+    out[at] = (word % 256) as u8;
+    out[at + 1] = (word / 256 % 256) as u8;
 }
 
-fn put_eight(out: &mut [u8], at: usize, value: u32)
-    requires { ⌜ (at + 8 ≤ length (now out)) × (value < 10 ^ 8) ⌝ }
-    ensures { λ _. ⌜ now (out .exit) ≡ sets (now (out .entry)) at (lastDigits 8 value) ⌝ }
+// One to three digits and the closing byte: two bytes from the front on, and the two last. Nothing after them changes.
+fn put_short(
+    leading: &[u32; 1000],
+    padded: &[u32; 1000],
+    out: &mut [u8],
+    at: usize,
+    value: u32,
+    closing: u8,
+) -> usize
+    requires { ⌜ Tables (now leading) (now padded) ⌝ }
+    requires { ⌜ (at + 4 ≤ length (now out)) × (value < 10 ^ 3) ⌝ }
+    ensures { λ r. ⌜ Puts (now (out .entry)) (now (out .exit)) at r (digitsOf value ++ (closing ∷ [])) ⌝ }
 {
-    put_four(out, at, value / 10000);
-    put_four(out, at + 4, value % 10000);
+    let front = leading_entry(leading, padded, value);
+    let back = padded_entry(leading, padded, value) / 65536 + 256 * closing as u32;
+    let end = at + (front / 16777216) as usize;
+    put_pair(out, at, front);
+    put_pair(out, end - 1, back);
+    end + 1
 }
 
-// One to four digits.
-fn put_short(out: &mut [u8], at: usize, value: u32) -> usize
-    requires { ⌜ (at + 4 ≤ length (now out)) × (value < 10 ^ 4) ⌝ }
-    ensures { λ r. ⌜ Puts (now (out .entry)) (now (out .exit)) at r (digitsOf value) ⌝ }
+// The first digits of a number, one to three.
+fn put_leading(
+    leading: &[u32; 1000],
+    padded: &[u32; 1000],
+    out: &mut [u8],
+    at: usize,
+    value: u32,
+) -> usize
+    requires { ⌜ Tables (now leading) (now padded) ⌝ }
+    requires { ⌜ (at + 4 ≤ length (now out)) × (value < 10 ^ 3) ⌝ }
+    ensures { λ r. ⌜ Starts (now (out .entry)) (now (out .exit)) at r (digitsOf value) ⌝ }
 {
-    if value < 10 {
-        out[at] = digit(value);
-        return at + 1;
-    }
-    if value < 100 {
-        put_two(out, at, value);
-        return at + 2;
-    }
+    let front = leading_entry(leading, padded, value);
+    store(out, at, front);
+    at + (front / 16777216) as usize
+}
+
+// Three digits and the closing byte.
+fn put_three(
+    leading: &[u32; 1000],
+    padded: &[u32; 1000],
+    out: &mut [u8],
+    at: usize,
+    value: u32,
+    closing: u8,
+)
+    requires { ⌜ Tables (now leading) (now padded) ⌝ }
+    requires { ⌜ (at + 4 ≤ length (now out)) × (value < 10 ^ 3) ⌝ }
+    ensures { λ _. ⌜ now (out .exit) ≡ sets (now (out .entry)) at (lastDigits 3 value ++ (closing ∷ [])) ⌝ }
+{
+    store(
+        out,
+        at,
+        padded_entry(leading, padded, value) + 16777216 * closing as u32,
+    );
+}
+
+// Nine digits and the closing byte.
+fn put_nine(
+    leading: &[u32; 1000],
+    padded: &[u32; 1000],
+    out: &mut [u8],
+    at: usize,
+    value: u32,
+    closing: u8,
+)
+    requires { ⌜ Tables (now leading) (now padded) ⌝ }
+    requires { ⌜ (at + 10 ≤ length (now out)) × (value < 10 ^ 9) ⌝ }
+    ensures { λ _. ⌜ now (out .exit) ≡ sets (now (out .entry)) at (lastDigits 9 value ++ (closing ∷ [])) ⌝ }
+{
+    put_three(leading, padded, out, at, value / 1000000, 0);
+    put_three(leading, padded, out, at + 3, value / 1000 % 1000, 0);
+    put_three(leading, padded, out, at + 6, value % 1000, closing);
+}
+
+// The first digits of a number, one to six.
+fn put_thousands(
+    leading: &[u32; 1000],
+    padded: &[u32; 1000],
+    out: &mut [u8],
+    at: usize,
+    value: u32,
+) -> usize
+    requires { ⌜ Tables (now leading) (now padded) ⌝ }
+    requires { ⌜ (at + 7 ≤ length (now out)) × (value < 10 ^ 6) ⌝ }
+    ensures { λ r. ⌜ Starts (now (out .entry)) (now (out .exit)) at r (digitsOf value) ⌝ }
+{
     if value < 1000 {
-        out[at] = digit(value / 100);
-        put_two(out, at + 1, value % 100);
-        return at + 3;
+        return put_leading(leading, padded, out, at, value);
     }
-    put_four(out, at, value);
-    at + 4
+    let next = put_leading(leading, padded, out, at, value / 1000);
+    put_three(leading, padded, out, next, value % 1000, 0);
+    next + 3
 }
 
-// One to eight digits.
-fn put_medium(out: &mut [u8], at: usize, value: u32) -> usize
-    requires { ⌜ (at + 8 ≤ length (now out)) × (value < 10 ^ 8) ⌝ }
-    ensures { λ r. ⌜ Puts (now (out .entry)) (now (out .exit)) at r (digitsOf value) ⌝ }
+// The first digits of a number, one to nine.
+fn put_millions(
+    leading: &[u32; 1000],
+    padded: &[u32; 1000],
+    out: &mut [u8],
+    at: usize,
+    value: u32,
+) -> usize
+    requires { ⌜ Tables (now leading) (now padded) ⌝ }
+    requires { ⌜ (at + 10 ≤ length (now out)) × (value < 10 ^ 9) ⌝ }
+    ensures { λ r. ⌜ Starts (now (out .entry)) (now (out .exit)) at r (digitsOf value) ⌝ }
 {
-    if value < 10000 {
-        return put_short(out, at, value);
+    if value < 1000 {
+        return put_leading(leading, padded, out, at, value);
     }
-    let next = put_short(out, at, value / 10000);
-    put_four(out, next, value % 10000);
-    next + 4
+    let next = put_thousands(leading, padded, out, at, value / 1000);
+    put_three(leading, padded, out, next, value % 1000, 0);
+    next + 3
 }
 
-// The number's digits from `at` on; the result is the place past the last.
-pub fn put_number(out: &mut [u8], at: usize, value: u64) -> usize
-    requires { ⌜ at + 20 ≤ length (now out) ⌝ }
-    ensures { λ r. ⌜ Puts (now (out .entry)) (now (out .exit)) at r (digitsOf value) ⌝ }
+// The number's digits from `at` on and the closing byte; the result is the place past it.
+pub fn put_number(
+    leading: &[u32; 1000],
+    padded: &[u32; 1000],
+    out: &mut [u8],
+    at: usize,
+    value: u64,
+    closing: u8,
+) -> usize
+    requires { ⌜ Tables (now leading) (now padded) ⌝ }
+    requires { ⌜ at + 21 ≤ length (now out) ⌝ }
+    ensures { λ r. ⌜ Puts (now (out .entry)) (now (out .exit)) at r (digitsOf value ++ (closing ∷ [])) ⌝ }
 {
-    if value < 100000000 {
-        return put_medium(out, at, value as u32);
+    if value < 1000 {
+        return put_short(leading, padded, out, at, value as u32, closing);
     }
-    let high = value / 100000000;
-    let low = (value % 100000000) as u32;
-    if high < 100000000 {
-        let next = put_medium(out, at, high as u32);
-        put_eight(out, next, low);
-        return next + 8;
+    if value < 1000000000 {
+        let next = put_thousands(leading, padded, out, at, (value / 1000) as u32);
+        put_three(leading, padded, out, next, (value % 1000) as u32, closing);
+        return next + 4;
     }
-    let next = put_short(out, at, (high / 100000000) as u32);
-    put_eight(out, next, (high % 100000000) as u32);
-    put_eight(out, next + 8, low);
-    next + 16
+    let high = value / 1000000000;
+    let low = (value % 1000000000) as u32;
+    if high < 1000000000 {
+        let next = put_millions(leading, padded, out, at, high as u32);
+        put_nine(leading, padded, out, next, low, closing);
+        return next + 10;
+    }
+    let next = put_leading(leading, padded, out, at, (high / 1000000000) as u32);
+    put_nine(leading, padded, out, next, (high % 1000000000) as u32, 0);
+    put_nine(leading, padded, out, next + 9, low, closing);
+    next + 19
 }

@@ -1,4 +1,4 @@
-// Document 01, "Trace and listing": one line of the listing, and the header line.
+// RULES.md, "Trace and listing": one line of the listing, and the header line.
 use crate::decimal::put_number;
 use crate::word::Word;
 use crate::word::put_word;
@@ -6,6 +6,7 @@ ghost use Prim.Native.Nat.{_+_, _≤_};
 ghost use lib.ListN.{length};
 ghost use Rattle.listing.specs.Line.{lineOf, headerOf};
 ghost use Rattle.listing.specs.Puts.{Puts};
+ghost use Rattle.listing.specs.Tables.{Tables};
 
 pub struct Line {
     pub sequence: u32,
@@ -16,18 +17,22 @@ pub struct Line {
 
 // Puts the line from `at` on, with its line feed; the result is the place past it. The zeros that `put_word` leaves after
 // a short word are overwritten: at least four bytes of the line follow it.
-pub fn put_line(out: &mut [u8], at: usize, line: Line) -> usize
+pub fn put_line(
+    leading: &[u32; 1000],
+    padded: &[u32; 1000],
+    out: &mut [u8],
+    at: usize,
+    line: Line,
+) -> usize
+    requires { ⌜ Tables (now leading) (now padded) ⌝ }
     requires { ⌜ at + 64 ≤ length (now out) ⌝ }
     ensures { λ r. ⌜ Puts (now (out .entry)) (now (out .exit)) at r (lineOf line) ⌝ }
 {
     let word = line.word;
-    let after_sequence = put_number(out, at, line.sequence as u64);
-    let first = put_word(out, after_sequence, word);
-    let after_first = put_number(out, first, line.first);
-    out[after_first] = b' ';
-    let after_second = put_number(out, after_first + 1, line.second);
-    out[after_second] = b'\n';
-    after_second + 1
+    let after_sequence = put_number(leading, padded, out, at, line.sequence as u64, b' ');
+    let after_word = put_word(out, after_sequence, word);
+    let after_first = put_number(leading, padded, out, after_word, line.first, b' ');
+    put_number(leading, padded, out, after_first, line.second, b'\n')
 }
 
 // Puts the header line from `at` on; the result is the place past it.

@@ -3,7 +3,7 @@
 use crate::session::Mode;
 use crate::session::Session;
 use crate::turn::turn;
-use listing::line::put_line;
+use listing::plain::put_line;
 ghost use mathlib.Core.Path.{_≡_};
 ghost use Prim.Native.Nat.{_+_, _≤_, _<_, _^_};
 ghost use lib.ListN.{length};

@@ -3,43 +3,10 @@ use Prim.Native.Nat.{_/_}
 use mathlib.Core.Path.{refl}
 use native.Mathlib.Omega.{arith}
 use Rattle.listing.proofs.Digits.{digits-most}
-use Rattle.listing.proofs.Numbers.{number-put}
+use Rattle.listing.proofs.Numbers.{number-put, number-start}
 use borrow.Author.Needs.{needs}
 use Rattle.listing.proofs.decimal.put_number.Statement.{statement}
 use Rattle.listing.proofs.decimal.put_number.Tie as tie
-
-cast-put-medium : tie.Need-cast-put-medium
-cast-put-medium c = search needs
-
-put-medium-requires : tie.Need-put-medium-requires
-put-medium-requires c κs = search needs
-
-same-length : tie.Need-same-length
-same-length c = search needs
-
-returns : tie.Need-returns
-returns c = search needs
-
-cast-low : tie.Need-cast-low
-cast-low c = search needs
-
-cast-put-medium-2 : tie.Need-cast-put-medium-2
-cast-put-medium-2 c = search needs
-
-put-medium-requires-2 : tie.Need-put-medium-requires-2
-put-medium-requires-2 c κs = search needs
-
-put-eight-requires : tie.Need-put-eight-requires
-put-eight-requires c κs = (omega (arith, digits-most 7 (c .before .before .before .before .before .before .before .before .args .value / 100000000) (omega arith)), omega arith)
-
-add-result : tie.Need-add-result
-add-result c = omega (arith, digits-most 7 (c .before .before .before .before .before .before .before .before .before .before .before .args .value / 100000000) (omega arith))
-
-same-length-2 : tie.Need-same-length-2
-same-length-2 c = search needs
-
-returns-2 : tie.Need-returns-2
-returns-2 c = number-put 8 (c .before .before .before .before .before .before .before .before .before .before .before .args .value) (omega arith) refl (c .before .before .before .before .before .before .put-medium2 .ensures) (c .before .before .put-eight .ensures)
 
 cast-put-short : tie.Need-cast-put-short
 cast-put-short c = search needs
@@ -47,48 +14,109 @@ cast-put-short c = search needs
 put-short-requires : tie.Need-put-short-requires
 put-short-requires c κs = search needs
 
-cast-put-eight : tie.Need-cast-put-eight
-cast-put-eight c = search needs
+same-length : tie.Need-same-length
+same-length c = search needs
 
-put-eight-requires-2 : tie.Need-put-eight-requires-2
-put-eight-requires-2 c κs = (omega (arith, digits-most 3 (c .before .before .before .before .before .before .before .before .args .value / 100000000 / 100000000) (omega arith)), omega arith)
+returns : tie.Need-returns
+returns c = search needs
 
-add-put-eight : tie.Need-add-put-eight
-add-put-eight c = omega (arith, digits-most 3 (c .before .before .before .before .before .before .before .before .before .before .before .before .args .value / 100000000 / 100000000) (omega arith))
+cast-put-thousands : tie.Need-cast-put-thousands
+cast-put-thousands c = search needs
 
-put-eight-requires-3 : tie.Need-put-eight-requires-3
-put-eight-requires-3 c κs = (omega (arith, digits-most 3 (c .before .before .before .before .before .before .before .before .before .before .before .before .args .value / 100000000 / 100000000) (omega arith)), omega arith)
+put-thousands-requires : tie.Need-put-thousands-requires
+put-thousands-requires c κs = search needs
+
+cast-put-three : tie.Need-cast-put-three
+cast-put-three c = search needs
+
+put-three-requires : tie.Need-put-three-requires
+put-three-requires c κs = let a = c .before .before .before .before .before .before .before .before in (a .pre .0, (omega (arith, digits-most 5 (a .args .value / 1000) (omega arith)), omega arith))
+
+add-result : tie.Need-add-result
+add-result c = omega (arith, digits-most 5 (c .before .before .before .before .before .before .before .before .before .before .before .args .value / 1000) (omega arith))
+
+same-length-2 : tie.Need-same-length-2
+same-length-2 c = search needs
+
+returns-2 : tie.Need-returns-2
+returns-2 c = number-put 3 (c .before .before .before .before .before .before .before .before .before .before .before .args .value) (c .before .before .before .before .before .before .before .before .before .before .before .args .closing) (omega arith) (omega arith) (c .before .before .before .before .before .before .put-thousands .ensures) (c .before .before .put-three .ensures) refl
+
+cast-low : tie.Need-cast-low
+cast-low c = search needs
+
+cast-put-millions : tie.Need-cast-put-millions
+cast-put-millions c = search needs
+
+put-millions-requires : tie.Need-put-millions-requires
+put-millions-requires c κs = search needs
+
+put-nine-requires : tie.Need-put-nine-requires
+put-nine-requires c κs = let a = c .before .before .before .before .before .before .before .before .before in (a .pre .0, (omega (arith, digits-most 8 (a .args .value / 1000000000) (omega arith)), omega arith))
 
 add-result-2 : tie.Need-add-result-2
-add-result-2 c = omega (arith, digits-most 3 (c .before .before .before .before .before .before .before .before .before .before .before .before .before .before .before .args .value / 100000000 / 100000000) (omega arith))
+add-result-2 c = omega (arith, digits-most 8 (c .before .before .before .before .before .before .before .before .before .before .before .before .args .value / 1000000000) (omega arith))
 
 same-length-3 : tie.Need-same-length-3
 same-length-3 c = search needs
 
 returns-3 : tie.Need-returns-3
-returns-3 c = let v = c .before .before .before .before .before .before .before .before .before .before .before .before .before .before .before .args .value in number-put 8 v (omega arith) (omega arith) (number-put 8 (v / 100000000) (omega arith) refl (c .before .before .before .before .before .before .before .before .before .before .put-short .ensures) (c .before .before .before .before .before .before .put-eight2 .ensures)) (c .before .before .put-eight3 .ensures)
+returns-3 c = number-put 9 (c .before .before .before .before .before .before .before .before .before .before .before .before .args .value) (c .before .before .before .before .before .before .before .before .before .before .before .before .args .closing) (omega arith) (omega arith) (c .before .before .before .before .before .before .put-millions .ensures) (c .before .before .put-nine .ensures) refl
+
+cast-put-leading : tie.Need-cast-put-leading
+cast-put-leading c = search needs
+
+put-leading-requires : tie.Need-put-leading-requires
+put-leading-requires c κs = search needs
+
+cast-put-nine : tie.Need-cast-put-nine
+cast-put-nine c = search needs
+
+put-nine-requires-2 : tie.Need-put-nine-requires-2
+put-nine-requires-2 c κs = let a = c .before .before .before .before .before .before .before .before .before in (a .pre .0, (omega (arith, digits-most 1 (a .args .value / 1000000000 / 1000000000) (omega arith)), omega arith))
+
+add-put-nine : tie.Need-add-put-nine
+add-put-nine c = omega (arith, digits-most 1 (c .before .before .before .before .before .before .before .before .before .before .before .before .before .args .value / 1000000000 / 1000000000) (omega arith))
+
+put-nine-requires-3 : tie.Need-put-nine-requires-3
+put-nine-requires-3 c κs = let a = c .before .before .before .before .before .before .before .before .before .before .before .before .before in (a .pre .0, (omega (arith, digits-most 1 (a .args .value / 1000000000 / 1000000000) (omega arith)), omega arith))
+
+add-result-3 : tie.Need-add-result-3
+add-result-3 c = omega (arith, digits-most 1 (c .before .before .before .before .before .before .before .before .before .before .before .before .before .before .before .before .args .value / 1000000000 / 1000000000) (omega arith))
+
+same-length-4 : tie.Need-same-length-4
+same-length-4 c = search needs
+
+returns-4 : tie.Need-returns-4
+returns-4 c = let a = c .before .before .before .before .before .before .before .before .before .before .before .before .before .before .before .before .args in number-put 9 (a .value) (a .closing) (omega arith) (omega arith) (number-start 9 (a .value / 1000000000) 0 (omega arith) (omega arith) (c .before .before .before .before .before .before .before .before .before .before .put-leading .ensures) (c .before .before .before .before .before .before .put-nine2 .ensures) refl) (c .before .before .put-nine3 .ensures) (omega arith)
 
 pub put-number-spec : {M : Type 1} → statement M
 put-number-spec =
     tie.close
     (tie.spec
-    cast-put-medium
-    put-medium-requires
+    cast-put-short
+    put-short-requires
     same-length
     returns
-    cast-low
-    cast-put-medium-2
-    put-medium-requires-2
-    put-eight-requires
+    cast-put-thousands
+    put-thousands-requires
+    cast-put-three
+    put-three-requires
     add-result
     same-length-2
     returns-2
-    cast-put-short
-    put-short-requires
-    cast-put-eight
-    put-eight-requires-2
-    add-put-eight
-    put-eight-requires-3
+    cast-low
+    cast-put-millions
+    put-millions-requires
+    put-nine-requires
     add-result-2
     same-length-3
-    returns-3)
+    returns-3
+    cast-put-leading
+    put-leading-requires
+    cast-put-nine
+    put-nine-requires-2
+    add-put-nine
+    put-nine-requires-3
+    add-result-3
+    same-length-4
+    returns-4)

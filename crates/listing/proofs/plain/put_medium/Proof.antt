@@ -1,12 +1,12 @@
--- `put_medium` meets its contract: the laws are in proofs/Numbers.antt.
+-- `put_medium` meets its contract: the laws are in proofs/ByArithmetic.antt.
 use Prim.Native.Nat.{_/_}
 use mathlib.Core.Path.{refl}
 use native.Mathlib.Omega.{arith}
 use Rattle.listing.proofs.Digits.{digits-most}
-use Rattle.listing.proofs.Numbers.{number-put}
+use Rattle.listing.proofs.ByArithmetic.{number-put}
 use borrow.Author.Needs.{needs}
-use Rattle.listing.proofs.decimal.put_medium.Statement.{statement}
-use Rattle.listing.proofs.decimal.put_medium.Tie as tie
+use Rattle.listing.proofs.plain.put_medium.Statement.{statement}
+use Rattle.listing.proofs.plain.put_medium.Tie as tie
 
 put-short-requires : tie.Need-put-short-requires
 put-short-requires c κs = search needs

@@ -1,9 +1,9 @@
--- `put_eight` meets its contract: the laws are in proofs/Numbers.antt.
+-- `put_eight` meets its contract: the laws are in proofs/ByArithmetic.antt.
 use denote.Ref.{now}
-use Rattle.listing.proofs.Numbers.{last-put}
+use Rattle.listing.proofs.ByArithmetic.{last-put}
 use borrow.Author.Needs.{needs}
-use Rattle.listing.proofs.decimal.put_eight.Statement.{statement}
-use Rattle.listing.proofs.decimal.put_eight.Tie as tie
+use Rattle.listing.proofs.plain.put_eight.Statement.{statement}
+use Rattle.listing.proofs.plain.put_eight.Tie as tie
 
 put-four-requires : tie.Need-put-four-requires
 put-four-requires c κs = search needs

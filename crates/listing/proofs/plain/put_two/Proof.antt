@@ -1,11 +1,11 @@
--- `put_two` meets its contract: the laws are in proofs/Numbers.antt.
+-- `put_two` meets its contract: the laws are in proofs/ByArithmetic.antt.
 use native.Mathlib.Omega.{arith}
 use lib.ListN.{length-set}
 use denote.Ref.{now}
-use Rattle.listing.proofs.Numbers.{pair-put}
+use Rattle.listing.proofs.ByArithmetic.{pair-put}
 use borrow.Author.Needs.{needs}
-use Rattle.listing.proofs.decimal.put_two.Statement.{statement}
-use Rattle.listing.proofs.decimal.put_two.Tie as tie
+use Rattle.listing.proofs.plain.put_two.Statement.{statement}
+use Rattle.listing.proofs.plain.put_two.Tie as tie
 
 digit-requires : tie.Need-digit-requires
 digit-requires c κs = search needs

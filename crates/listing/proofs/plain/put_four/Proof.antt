@@ -1,9 +1,9 @@
--- `put_four` meets its contract: the laws are in proofs/Numbers.antt.
+-- `put_four` meets its contract: the laws are in proofs/ByArithmetic.antt.
 use denote.Ref.{now}
-use Rattle.listing.proofs.Numbers.{last-put}
+use Rattle.listing.proofs.ByArithmetic.{last-put}
 use borrow.Author.Needs.{needs}
-use Rattle.listing.proofs.decimal.put_four.Statement.{statement}
-use Rattle.listing.proofs.decimal.put_four.Tie as tie
+use Rattle.listing.proofs.plain.put_four.Statement.{statement}
+use Rattle.listing.proofs.plain.put_four.Tie as tie
 
 put-two-requires : tie.Need-put-two-requires
 put-two-requires c κs = search needs

@@ -3,4 +3,3 @@ pub mod Parts
 pub mod Passing
 pub mod Records
 pub mod Unique
-pub mod Whole

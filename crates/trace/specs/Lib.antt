@@ -2,4 +2,3 @@ pub mod Effect
 pub mod Stepping
 pub mod Turn
 pub mod Pass
-pub mod Whole

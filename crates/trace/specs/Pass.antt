@@ -1,18 +1,17 @@
--- Document 01, "Trace and listing": the listing, line after line.
-use Prim.Native.Nat.{ℕ, zero, suc, _+_, _-_, _*_, _<_, _≤_}
+-- Document 01, "Trace and listing": turns on a part of a trace, and what a pass over it gives.
+use Prim.Native.Nat.{ℕ, zero, suc, _+_, _-_, _<_, _≤_}
 use mathlib.Core.Path.{_≡_}
 use mathlib.Core.Bool.{Bool, true, false}
 use mathlib.Core.List.{List, [], _++_}
-use lib.ListN.{length, drop, replicate}
+use lib.ListN.{length, drop}
 use lib.Dec.{leb, ltb}
 use Rattle.kit.specs.Choice.{when, both}
-use Rattle.listing.specs.Line.{lineOf, headerOf}
+use Rattle.listing.specs.Line.{lineOf}
 use Rattle.record.specs.Claims.{longest}
 use Rattle.trace.specs.declared.session.Mode.{Mode}
 use Rattle.trace.specs.declared.session.Mode.the-variants.{Records, Steps, Over}
 use Rattle.trace.specs.declared.session.Session.{Session}
 use Rattle.trace.specs.declared.pass.Passed.{Passed}
-use Rattle.trace.specs.Effect.{startOf}
 use Rattle.trace.specs.Turn.{turnOf}
 
 -- a turn can be taken: a step is under way, or a whole record is left, or at the trace's end any byte
@@ -72,12 +71,3 @@ abbrev pub PassUnique : Type 0
 PassUnique = (s : Session) (base : ℕ) (input : List ℕ) (ended : Bool) (m w out : List ℕ) (r r′ : Passed) (m₁ w₁ out₁ m₂ w₂ out₂ : List ℕ)
     → Passes s base input ended m w out r m₁ w₁ out₁ → Passes s base input ended m w out r′ m₂ w₂ out₂
     → (r ≡ r′) × (m₁ ≡ m₂) × (w₁ ≡ w₂) × (out₁ ≡ out₂)
-
--- the listing of a whole trace: the header, and turns until none can be taken
-unfoldable pub listFrom : ℕ → List ℕ → Replay → List ℕ
-listFrom zero input r = r .text
-listFrom (suc n) input r = elim (readyIn input true r) [ true ↦ listFrom n input (turnOn 0 input r) | false ↦ r .text ]
-
--- a record is at least 8 bytes and gives at most 65,536 lines
-unfoldable pub listingOf : List ℕ → List ℕ
-listingOf input = headerOf ++ listFrom (65536 * (length input + 1)) input (begin startOf (replicate 32768 0) (replicate 32 0))

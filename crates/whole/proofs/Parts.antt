@@ -1,6 +1,6 @@
 -- A turn on a part of a trace is a turn on the whole.
 use mathlib.Core.Path.{_≡_, refl, sym, ap, subst, _∙_}
-use Prim.Native.Nat.{ℕ, zero, suc, _+_, _-_, _≤_}
+use Prim.Native.Nat.{ℕ, zero, suc, _+_, _-_, _≤_, _<_}
 use mathlib.Core.Bool.{Bool, true, false}
 use mathlib.Core.List.{List, [], _++_, append-assoc, append-nil}
 use native.Mathlib.Nat.{add-assoc}
@@ -19,16 +19,19 @@ use Rattle.record.specs.Reading.{readingOf}
 use Rattle.record.specs.Claims.{longest, shifted}
 use Rattle.record.proofs.Claims.{claims}
 use Rattle.listing.specs.Line.{lineOf}
 use Rattle.trace.specs.declared.session.Mode.{Mode}
 use Rattle.trace.specs.declared.session.Mode.the-variants as modes
 use Rattle.trace.specs.declared.session.Session.{Session}
 use Rattle.listing.specs.declared.word.Word.the-variants as words
 use Rattle.trace.specs.Effect.{effected, badOf, withSequence}
 use Rattle.trace.specs.Turn.{DataFits, Applied, applied, onMemory, applyOf, Turn, turnAs, recordBy, turnBy, turnOf}
-use Rattle.trace.specs.Pass.{readyOf, readyIn, Replay, turnOn, turnsOf, listFrom}
-use Rattle.trace.specs.Whole.{seenIn, Parts, Lists}
+use Rattle.trace.specs.Pass.{readyOf, readyIn, Replay, turnOn, turnsOf}
 use Rattle.trace.proofs.Records.{data-fits}
 use Rattle.trace.proofs.Lengths.{turn-kept}
+
+-- a replay of a part, seen in the whole trace: `place` bytes and the lines `text` came before it
+abbrev pub seenIn : ℕ → List ℕ → Replay → Replay
+seenIn place text r = record { session = r .session; at = place + r .at; memory = r .memory; windows = r .windows; text = text ++ r .text }
 
 -- the turn, its next place reckoned from d bytes before
 later : ℕ → Turn → Turn
@@ -134,28 +137,20 @@ module _ (before part after : List ℕ) where
       shown : List ℕ → Replay → Turn → Replay
       shown text r t = record { session = t .session; at = t .at; memory = t .memory; windows = t .windows; text = (text ++ r .text) ++ lineOf (t .line) }
 
-turns-within : (base : ℕ) (part : List ℕ) (r : Replay) (n : ℕ) → r .at ≤ length part → turnsOf n base part r .at ≤ length part
+pub turns-within : (base : ℕ) (part : List ℕ) (r : Replay) (n : ℕ) → r .at ≤ length part → turnsOf n base part r .at ≤ length part
 unfolding turnsOf turnOn
 turns-within base part r zero h = h
 turns-within base part r (suc n) h =
     let q = turnsOf n base part r in
     turn-kept (q .session) (base + q .at) part (q .at) (q .memory) (q .windows) (turns-within base part r n h) .within
 
-pub parts : Parts
+-- turns that could be taken on a part are turns of the whole: the same lines, and the same session, memory and windows
+-- after them. Where the part is said to be the last, nothing follows it.
+pub parts : (before part after text : List ℕ) (ended : Bool) (r : Replay) (n : ℕ) → (ended ≡ true → after ≡ []) → r .at ≤ length part
+    → ((k : ℕ) → k < n → readyIn part ended (turnsOf k (length before) part r) ≡ true)
+    → turnsOf n 0 (before ++ (part ++ after)) (seenIn (length before) text r) ≡ seenIn (length before) text (turnsOf n (length before) part r)
 unfolding turnsOf
 parts before part after text ended r zero last h ready = refl
 parts before part after text ended r (suc n) last h ready =
     ap (turnOn 0 (before ++ (part ++ after))) (parts before part after text ended r n last h (λ k i. ready k (omega arith)))
     ∙ on-part before part after text ended (turnsOf n (length before) part r) last (turns-within (length before) part r n h) (ready n (omega arith))
-
-list-step : (k : ℕ) (input : List ℕ) (r : Replay) → readyIn input true r ≡ true → listFrom (suc k) input r ≡ listFrom k input (turnOn 0 input r)
-unfolding listFrom
-list-step k input r e = rw (e, listFrom)
-
-pub lists : Lists
-unfolding turnsOf
-lists input r zero k ready = let same : 0 + k ≡ k = omega arith in ap (λ (j : ℕ). listFrom j input r) same
-lists input r (suc n) k ready =
-    let same : suc n + k ≡ n + suc k = omega arith in
-    ap (λ (j : ℕ). listFrom j input r) same ∙ lists input r n (suc k) (λ j i. ready j (omega arith))
-    ∙ list-step k input (turnsOf n 0 input r) (ready n (omega arith))

@@ -1,0 +1,235 @@
+"""python/belikumba.py gives what docs/RULES.md says: its worked cases, each answer, and the same lines as host/copy.c."""
+
+import os
+import sys
+import unittest
+
+ROOT = os.path.join(os.path.dirname(os.path.abspath(__file__)), "..", "..")
+sys.path.insert(0, os.path.join(ROOT, "python"))
+
+import belikumba
+from belikumba import Answer, Clock, Control, Descriptor, Engine, Event, Monitor, Refused, Register, Status, Step, plan
+
+
+class Cases(unittest.TestCase):
+    def refused(self, answer, call, *arguments, **named):
+        with self.assertRaises(Refused) as caught:
+            call(*arguments, **named)
+        self.assertIs(caught.exception.answer, answer)
+        self.assertIn(f"answer {answer.value}: ", str(caught.exception))
+
+
+class Plans(Cases):
+    """RULES.md 10, P1 to P8, as tests/plan/plan.c has them."""
+
+    def test_worked_cases(self):
+        for arguments, bursts in (
+            ((4, 16, 0, 1), [(0, 1)]),
+            ((4, 16, 0, 64), [(0, 64)]),
+            ((4, 16, 0, 65), [(0, 64), (64, 1)]),
+            ((4, 16, 3, 64), [(3, 61), (64, 3)]),
+            ((4, 16, 4088, 16), [(4088, 8), (4096, 8)]),
+            ((4, 16, 4294967295, 1), [(4294967295, 1)]),
+            ((128, 256, 0, 8192), [(0, 4096), (4096, 4096)]),
+        ):
+            self.assertEqual(plan(*arguments), bursts)
+        self.assertEqual(plan(4, 16, 0, 65, places=4), [(0, 64), (64, 1)])
+
+    def test_longest(self):
+        bursts = plan(4, 2, 4095, 8388607)
+        self.assertEqual((len(bursts), sum(count for _, count in bursts)), (1048577, 8388607))
+
+    def test_refusals(self):
+        self.refused(Answer.PLAN_RANGE, plan, 4, 16, 4294967295, 2)
+        self.refused(Answer.PLAN_RANGE, plan, 4, 16, 0, 0)
+        self.refused(Answer.PLAN_RANGE, plan, 4, 16, 0, 8388608)
+        self.refused(Answer.PLAN_ROOM, plan, 4, 16, 0, 65, places=3)
+        self.refused(Answer.PLAN_ROOM, plan, 4, 16, 0, 1, places=0)
+        self.refused(Answer.SETTINGS, plan, 3, 16, 0, 0)
+        self.refused(Answer.SETTINGS, plan, 4, 512, 0, 1)
+
+
+class Engines(Cases):
+    def test_stale_descriptor(self):  # S1
+        memory = bytearray(4096)
+        Descriptor(source=1024, destination=2048, control=8, status=0x80000000).store(memory, 0)
+        engine = Engine()
+        engine.write(Register.CDMACR, Control.SGMODE)
+        engine.write(Register.CURDESC, 0)
+        engine.write(Register.TAILDESC, 0)
+        self.assertEqual(engine.step(memory), Step(Event.HALT, 0, 8))
+        self.assertEqual(engine.read(Register.CDMASR), 0x0001410A)
+
+    def test_chain_of_one(self):  # S2
+        memory = bytearray(4096)
+        Descriptor(source=1024, destination=0, control=65).store(memory, 2048)
+        engine = Engine()
+        engine.write(Register.CDMACR, Control.SGMODE)
+        engine.write(Register.CURDESC, 2048)
+        engine.write(Register.TAILDESC, 2048)
+        self.assertEqual(engine.run(memory), 4)
+        self.assertEqual(Descriptor.load(memory, 2048).status, 0x80000000)
+
+    def test_overlap(self):  # S3
+        memory = bytearray(b"\x01\x02\x03" + bytes(61))
+        engine = Engine()
+        engine.write(Register.SA, 0)
+        engine.write(Register.DA, 1)
+        engine.write(Register.BTT, 3)
+        self.assertEqual(engine.run(memory), 1)
+        self.assertEqual(memory[:5], b"\x01\x01\x02\x03\x00")
+
+    def test_refusals(self):
+        engine = Engine()
+        fresh = engine.words
+        self.refused(Answer.OFFSET, engine.read, 44)
+        self.refused(Answer.OFFSET, engine.write, 1, 0)
+        self.refused(Answer.BUSY, engine.write, Register.TAILDESC, 0)
+        self.refused(Answer.MEMORY_SIZE, engine.step, bytearray(16777217))
+        self.refused(Answer.WINDOW_COUNT, engine.run, bytearray(16), windows=[(0, 0)] * 17)
+        self.assertEqual(engine.words, fresh)
+        engine.write(Register.BTT, 0)
+        self.assertEqual(engine.read(Register.CDMASR) & Status.ERRORS, Status.DMAINTERR)
+        self.refused(Answer.ERROR_SET, engine.write, Register.SA, 0)
+        self.refused(Answer.SETTINGS, Engine(width=3).read, 0)
+        self.refused(Answer.STATE, Engine(words=[4, 16, 2] + [0] * 17).read, 0)
+        self.refused(Answer.STATE, getattr, Engine(words=[4, 16, 2] + [0] * 17), "interrupt_line")
+
+    def test_limits(self):
+        engine = Engine()
+        self.assertEqual(engine.step(bytearray(16777216), windows=[(0, 1)] * 16), Step(Event.NONE, 0, 0))
+        self.assertEqual(engine.step(bytearray()), Step(Event.NONE, 0, 0))
+        self.assertEqual(engine.run(bytearray(), most=0), 0)
+        for call in (
+            lambda: engine.read(-1),
+            lambda: engine.write(0, 1 << 32),
+            lambda: engine.run(bytearray(), most=65536),
+            lambda: engine.step(bytearray(), windows=[(1 << 32, 0)]),
+        ):
+            self.assertRaises(OverflowError, call)
+        self.assertRaises(ValueError, Engine, words=[4, 16])
+        self.assertRaises(ValueError, Monitor, words=[0])
+        self.assertRaises(TypeError, engine.step, b"not writable")
+
+
+class Monitors(Cases):
+    """RULES.md 10, M1 to M3."""
+
+    def after_quiet(self, **fields):
+        monitor = Monitor()
+        monitor.clock(Clock(bits=1))
+        return monitor.clock(Clock(bits=3, **fields)), monitor
+
+    def test_worked_cases(self):
+        self.assertEqual(self.after_quiet(burst=1, length=15, size=2, address=0xFC0)[0], (0, 0))
+        self.assertEqual(self.after_quiet(burst=1, length=15, size=2, address=0xFC1)[0], (0, 0))
+        self.assertEqual(self.after_quiet(burst=1, length=15, size=2, address=0xFC4)[0], (1, 37))
+        self.assertEqual(self.after_quiet(burst=0, length=15)[0], (0, 0))
+        self.assertEqual(self.after_quiet(burst=0, length=16)[0], (1, 42))
+
+    def test_flags_and_snapshot(self):
+        _, monitor = self.after_quiet(burst=3)
+        self.assertEqual((monitor.flags, monitor.snapshot), ([39], [39]))
+        self.assertEqual(monitor.clock(Clock(bits=1, burst=3)), (2, 39))
+        self.assertEqual((monitor.flags, monitor.snapshot), ([39, 56], [39]))
+        self.assertEqual(monitor.clock(Clock()), (0, 0))
+
+    def test_refusals(self):
+        monitor = Monitor()
+        before = monitor.words
+        self.refused(Answer.CLOCK, monitor.clock, Clock(bits=8))
+        self.refused(Answer.CLOCK, monitor.clock, Clock(length=256))
+        self.refused(Answer.SETTINGS, Monitor(width=5).clock, Clock())
+        self.refused(Answer.STATE, Monitor(words=[0] * 4 + [8] + [0] * 9).clock, Clock())
+        self.assertEqual(monitor.words, before)
+
+
+class Lines(unittest.TestCase):
+    """What host/copy.c does, with the lines that were worked out by hand for it."""
+
+    def write(self, offset, value):
+        try:
+            self.engine.write(offset, value)
+            answer = 0
+        except Refused as refused:
+            answer = refused.answer.value
+        text = f"0x{value:08x}" if offset <= Register.CDMASR else str(int(value))
+        self.lines.append(f"write {Register(offset).name} {text}: answer {answer}")
+
+    def status(self):
+        self.lines.append(f"read CDMASR 0x{self.engine.read(Register.CDMASR):08x}: answer 0")
+        self.lines.append(f"interrupt line {int(self.engine.interrupt_line)}: answer 0")
+
+    def step(self):
+        event, first, second = self.engine.step(self.memory)
+        self.lines.append(f"{event.name.lower()} {first} {second}: answer 0")
+
+    def show(self, start, count):
+        for at in range(start, start + count, 16):
+            self.lines.append(f"memory {at}: {self.memory[at:min(at + 16, start + count)].hex(' ')}")
+
+    def start(self, destination, count):
+        self.write(Register.SA, 256)
+        self.write(Register.DA, destination)
+        self.write(Register.BTT, count)
+
+    def simple(self):
+        self.lines.append("simple mode")
+        self.write(Register.CDMACR, Control.IOC_IRQEN)
+        self.start(4088, 16)
+        self.write(Register.SA, 0)
+        self.status()
+        for _ in range(3):
+            self.step()
+        self.status()
+        self.show(4087, 18)
+        self.write(Register.CDMASR, Status.IOC_IRQ)
+        self.status()
+
+    def chain(self):
+        self.lines.append("chain mode")
+        Descriptor(1088, 256, 2048, 65).store(self.memory, 1024)
+        Descriptor(1024, 321, 2113, 31).store(self.memory, 1088)
+        self.write(Register.CDMACR, Control.SGMODE | Control.IOC_IRQEN)
+        self.write(Register.CURDESC, 1024)
+        self.write(Register.TAILDESC, 1088)
+        for _ in range(7):
+            self.step()
+        self.status()
+        for at in (1024, 1088):
+            self.lines.append(f"status of descriptor {at}: 0x{Descriptor.load(self.memory, at).status:08x}")
+        self.show(2047, 98)
+        self.write(Register.CDMASR, Status.IOC_IRQ)
+
+    def window(self):
+        self.lines.append("sick window")
+        self.write(Register.CDMACR, Control.ERR_IRQEN)
+        self.start(8184, 16)
+        self.lines.append(f"ran {self.engine.run(self.memory, [(8195, 1)])} steps: answer 0")
+        self.status()
+        self.show(8183, 18)
+        self.write(Register.BTT, 16)
+        self.write(Register.CDMACR, Control.RESET)
+        self.status()
+
+    def clocks(self):
+        self.lines.append("bus clocks")
+        monitor = Monitor()
+        burst = Clock(bits=7, address=0xFC0, length=15, size=2, burst=1)
+        for clock in (Clock(bits=1), burst, burst._replace(address=0xFC4)):
+            count, lowest = monitor.clock(clock)
+            self.lines.append(f"address {clock.address}: flags {count}, lowest {lowest}: answer 0")
+
+    def test_lines(self):
+        self.engine, self.memory, self.lines = Engine(), bytearray(3 * 4096), []
+        self.memory[256:352] = bytes(range(1, 97))
+        self.simple()
+        self.chain()
+        self.window()
+        self.clocks()
+        with open(os.path.join(ROOT, "tests", "lines", "copy")) as file:
+            self.assertEqual(self.lines, [line.split("#")[0].rstrip() for line in file])
+
+
+if __name__ == "__main__":
+    unittest.main()

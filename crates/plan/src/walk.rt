@@ -6,8 +6,8 @@ ghost use Prim.Native.Nat.{_+_, _-_, _≤_, _<_};
 ghost use Rattle.kit.specs.Limits.{addressEnd};
 ghost use Rattle.cut.specs.Cut.{bytesWithin};
 
-// The burst after the first `done` bytes, of which words of `words` bytes are in reach. The start is a sum of the
-// transfer's start and less than its count, so that it needs no more bits than an address has.
+// The burst after the first `done` bytes, if the words that it may touch have `words` bytes left. Its start is the only
+// sum: less than the transfer's end, so it is an address.
 pub fn burst_after(words: u64, start: u32, count: u32, done: u32) -> Burst
     requires { ⌜ done < count ⌝ }
     requires { ⌜ start + count ≤ addressEnd ⌝ }

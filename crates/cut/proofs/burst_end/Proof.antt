@@ -9,9 +9,6 @@ use borrow.Author.Needs.{needs}
 use Rattle.cut.proofs.burst_end.Statement.{statement}
 use Rattle.cut.proofs.burst_end.Tie as tie
 
-word-start-requires : tie.Need-word-start-requires
-word-start-requires c κs = search needs
-
 mul-end-from : tie.Need-mul-end-from
 mul-end-from c = fits-le (mul-le-mul {n₂ = 128} {m₂ = 256} (c .before .pre .1 .0) (c .before .pre .1 .1 .0)) (fits-lit tt)
 
@@ -28,4 +25,4 @@ returns c =
     ∙ burst-end-from (a .width) (a .beats) (a .at) (a .end)
 
 pub burst-end-spec : {M : Type 1} → statement M
-burst-end-spec = tie.close (tie.spec word-start-requires mul-end-from end-from-requires returns)
+burst-end-spec = tie.close (tie.spec (λ c κs. search needs) mul-end-from end-from-requires returns)

@@ -8,8 +8,5 @@ use Rattle.cut.proofs.span.Tie as tie
 mul-result : tie.Need-mul-result
 mul-result c = fits-le (mul-le-mul {n₂ = 2 ^ 32 - 1} {m₂ = 2 ^ 32 - 1} (search needs) (search needs)) (fits-lit tt)
 
-returns : tie.Need-returns
-returns c = search needs
-
 pub span-spec : {M : Type 1} → statement M
-span-spec = tie.close (tie.spec mul-result returns)
+span-spec = tie.close (tie.spec mul-result (λ c. search needs))

@@ -7,9 +7,6 @@ use Rattle.cut.proofs.word_offset.Tie as tie
 at-width : (a : ℕ) {w k : ℕ} → w ≡ k → a % k ≡ a % w
 at-width a e = ap (λ (n : ℕ). a % n) (sym e)
 
-rem-result : tie.Need-rem-result
-rem-result c = search needs
-
 returns : tie.Need-returns
 returns c = at-width (c .before .args .at) (c .match .keys1)
 
@@ -28,8 +25,5 @@ returns-5 c = at-width (c .before .args .at) (c .match .keys5)
 returns-6 : tie.Need-returns-6
 returns-6 c = at-width (c .before .args .at) (c .match .keys6)
 
-returns-7 : tie.Need-returns-7
-returns-7 c = search needs
-
 pub word-offset-spec : {M : Type 1} → statement M
-word-offset-spec = tie.close (tie.spec rem-result returns returns-2 returns-3 returns-4 returns-5 returns-6 returns-7)
+word-offset-spec = tie.close (tie.spec (λ c. search needs) returns returns-2 returns-3 returns-4 returns-5 returns-6 (λ c. search needs))

@@ -9,27 +9,6 @@ use Rattle.cut.proofs.word_start.Tie as tie
 at-width : (a : ℕ) {w k : ℕ} → w ≡ k → a / k * k ≡ a / w * w
 at-width a e = ap (λ (n : ℕ). a / n * n) (sym e)
 
-mul-result : tie.Need-mul-result
-mul-result c = search needs
-
-mul-result-2 : tie.Need-mul-result-2
-mul-result-2 c = search needs
-
-mul-result-3 : tie.Need-mul-result-3
-mul-result-3 c = search needs
-
-mul-result-4 : tie.Need-mul-result-4
-mul-result-4 c = search needs
-
-mul-result-5 : tie.Need-mul-result-5
-mul-result-5 c = search needs
-
-mul-result-6 : tie.Need-mul-result-6
-mul-result-6 c = search needs
-
-div-result : tie.Need-div-result
-div-result c = search needs
-
 mul-result-7 : tie.Need-mul-result-7
 mul-result-7 c = fits-le (div-mul-le-self (c .before .args .at) (c .before .args .width)) (c .before .fits .at)
 
@@ -51,20 +30,17 @@ returns-5 c = at-width (c .before .args .at) (c .match .keys5)
 returns-6 : tie.Need-returns-6
 returns-6 c = at-width (c .before .args .at) (c .match .keys6)
 
-returns-7 : tie.Need-returns-7
-returns-7 c = search needs
-
 pub word-start-spec : {M : Type 1} → statement M
 word-start-spec =
     tie.close
     (tie.spec
-    mul-result
-    mul-result-2
-    mul-result-3
-    mul-result-4
-    mul-result-5
-    mul-result-6
-    div-result
+    (λ c. search needs)
+    (λ c. search needs)
+    (λ c. search needs)
+    (λ c. search needs)
+    (λ c. search needs)
+    (λ c. search needs)
+    (λ c. search needs)
     mul-result-7
     returns
     returns-2
@@ -72,4 +48,4 @@ word-start-spec =
     returns-4
     returns-5
     returns-6
-    returns-7)
+    (λ c. search needs))

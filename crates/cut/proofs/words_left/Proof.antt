@@ -4,20 +4,11 @@ use borrow.Author.Needs.{needs}
 use Rattle.cut.proofs.words_left.Statement.{statement}
 use Rattle.cut.proofs.words_left.Tie as tie
 
-span-requires : tie.Need-span-requires
-span-requires c κs = search needs
-
-word-offset-requires : tie.Need-word-offset-requires
-word-offset-requires c κs = search needs
-
 sub-result : tie.Need-sub-result
 sub-result c =
     let a = c .before .before .args in
     let (width, beats) = c .before .before .pre in
     omega (arith, c .word-offset .ensures, mod-lt (a .at) width, mul-le-mul-right (a .width) beats, mul-comm (a .width) (a .beats))
 
-returns : tie.Need-returns
-returns c = search needs
-
 pub words-left-spec : {M : Type 1} → statement M
-words-left-spec = tie.close (tie.spec span-requires word-offset-requires sub-result returns)
+words-left-spec = tie.close (tie.spec (λ c κs. search needs) (λ c κs. search needs) sub-result (λ c. search needs))

@@ -11,12 +11,6 @@ use Rattle.plan.proofs.Planning.{planable, zero-answer, given, writes, 
 use Rattle.plan.proofs.plan_bytes.Statement.{statement}
 use Rattle.plan.proofs.plan_bytes.Tie as tie
 
-measure-requires : tie.Need-measure-requires
-measure-requires c κs = search needs
-
-number-requires : tie.Need-number-requires
-number-requires c κs = search needs
-
 bytes-requires : tie.Need-bytes-requires
 bytes-requires c κs =
     let a = c .before .before .before .before .before .args in
@@ -24,9 +18,6 @@ bytes-requires c κs =
     let k = c .before .before .number .ensures in
     let p = planable (a .width) (a .beats) (a .start) (a .count) (length (now (a .places)) / 4) (zero-answer (m .result) (m .ensures) k [] [] (c .before .if1 .taken)) in
     (p .legal, (p .range .inside, omega arith))
-
-same-length : tie.Need-same-length
-same-length c = search needs
 
 returns : tie.Need-returns
 returns c =
@@ -46,9 +37,9 @@ pub plan-bytes-spec : {M : Type 1} → statement M
 plan-bytes-spec =
     tie.close
     (tie.spec
-    measure-requires
-    number-requires
+    (λ c κs. search needs)
+    (λ c κs. search needs)
     bytes-requires
-    same-length
+    (λ c. search needs)
     returns
     returns-2)

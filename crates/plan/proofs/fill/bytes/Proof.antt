@@ -29,9 +29,6 @@ turn-at c =
     let f = c .before .before .before .before .before .before in
     turn (f .args .width) (f .args .beats) (f .args .start) (f .args .count) (f .pre .0) (c .before .before .loop .inv .walk) (c .before .loop-test .taken) (c .burst-after .result) (c .burst-after .ensures)
 
-span-requires : tie.Need-span-requires Inv-loop μ-loop
-span-requires c κs = search needs
-
 words-left-requires : tie.Need-words-left-requires Inv-loop μ-loop
 words-left-requires c κs =
     let f = c .before .before in
@@ -45,9 +42,6 @@ loop-holds c =
 
 burst-after-requires : tie.Need-burst-after-requires Inv-loop μ-loop
 burst-after-requires c κs = (c .loop-test .taken, c .before .before .before .before .before .pre .1 .0)
-
-store-burst-requires : tie.Need-store-burst-requires Inv-loop μ-loop
-store-burst-requires c κs = let t = turn-at (c .before) in omega arith
 
 add-place : tie.Need-add-place Inv-loop μ-loop
 add-place c = let t = turn-at (c .before .before .before .before) in omega arith
@@ -83,11 +77,11 @@ bytes-spec =
     (tie.spec
     Inv-loop
     μ-loop
-    span-requires
+    (λ c κs. search needs)
     words-left-requires
     loop-holds
     burst-after-requires
-    store-burst-requires
+    (λ c κs. let t = turn-at (c .before) in omega arith)
     add-place
     add-done
     loop-less

@@ -26,9 +26,6 @@ turn-at c =
     let f = c .before .before .before .before .before .before in
     turn (f .args .width) (f .args .beats) (f .args .start) (f .args .count) (f .pre .0) (c .before .before .loop .inv .walk) (c .before .loop-test .taken) (c .burst-after .result) (c .burst-after .ensures)
 
-span-requires : tie.Need-span-requires Inv-loop μ-loop
-span-requires c κs = search needs
-
 words-left-requires : tie.Need-words-left-requires Inv-loop μ-loop
 words-left-requires c κs =
     let f = c .before .before in
@@ -43,29 +40,8 @@ loop-holds c =
 burst-after-requires : tie.Need-burst-after-requires Inv-loop μ-loop
 burst-after-requires c κs = (c .loop-test .taken, c .before .before .before .before .before .pre .1 .0)
 
-mul-places : tie.Need-mul-places Inv-loop μ-loop
-mul-places c = let t = turn-at c in omega arith
-
-slice-write-places : tie.Need-slice-write-places Inv-loop μ-loop
-slice-write-places c = let t = turn-at c in omega arith
-
-add-places : tie.Need-add-places Inv-loop μ-loop
-add-places c = let t = turn-at c in omega arith
-
-mul-places-2 : tie.Need-mul-places-2 Inv-loop μ-loop
-mul-places-2 c = let t = turn-at c in omega arith
-
 slice-write-places-2 : tie.Need-slice-write-places-2 Inv-loop μ-loop
 slice-write-places-2 c = let t = turn-at c in simp length-set (omega arith)
-
-add-place : tie.Need-add-place Inv-loop μ-loop
-add-place c = let t = turn-at c in omega arith
-
-add-done : tie.Need-add-done Inv-loop μ-loop
-add-done c = let t = turn-at (c .before) in omega arith
-
-loop-less : tie.Need-loop-less Inv-loop μ-loop
-loop-less c = let t = turn-at (c .before) in omega arith
 
 loop-again : tie.Need-loop-again Inv-loop μ-loop
 loop-again c =
@@ -88,18 +64,18 @@ places-spec =
     (tie.spec
     Inv-loop
     μ-loop
-    span-requires
+    (λ c κs. search needs)
     words-left-requires
     loop-holds
     burst-after-requires
-    mul-places
-    slice-write-places
-    add-places
-    mul-places-2
+    (λ c. let t = turn-at c in omega arith)
+    (λ c. let t = turn-at c in omega arith)
+    (λ c. let t = turn-at c in omega arith)
+    (λ c. let t = turn-at c in omega arith)
     slice-write-places-2
-    add-place
-    add-done
-    loop-less
+    (λ c. let t = turn-at c in omega arith)
+    (λ c. let t = turn-at (c .before) in omega arith)
+    (λ c. let t = turn-at (c .before) in omega arith)
     loop-again
     same-length
     returns)

@@ -9,18 +9,6 @@ use Rattle.plan.proofs.Filling.{little-pair}
 use Rattle.plan.proofs.fill.store_burst.Statement.{statement}
 use Rattle.plan.proofs.fill.store_burst.Tie as tie
 
-store-requires : tie.Need-store-requires
-store-requires c κs = search needs
-
-add-store : tie.Need-add-store
-add-store c = search needs
-
-store-requires-2 : tie.Need-store-requires-2
-store-requires-2 c κs = search needs
-
-same-length : tie.Need-same-length
-same-length c = search needs
-
 returns : tie.Need-returns
 returns c =
     let a = c .before .before .before .before .before .before .before .before .before .args in
@@ -29,4 +17,4 @@ returns c =
 
 pub store-burst-spec : {M : Type 1} → statement M
 store-burst-spec =
-    tie.close (tie.spec store-requires add-store store-requires-2 same-length returns)
+    tie.close (tie.spec (λ c κs. search needs) (λ c. search needs) (λ c κs. search needs) (λ c. search needs) returns)

@@ -24,9 +24,6 @@ turn-at c =
     let f = c .before .before .before .before .before in
     turn (f .args .width) (f .args .beats) (f .args .start) (f .args .count) (f .pre .0) (c .before .before .loop .inv .0) (c .before .loop-test .taken) (c .burst-after .result) (c .burst-after .ensures)
 
-span-requires : tie.Need-span-requires Inv-loop μ-loop
-span-requires c κs = search needs
-
 words-left-requires : tie.Need-words-left-requires Inv-loop μ-loop
 words-left-requires c κs =
     let g = legal (c .before .args .width) (c .before .args .beats) (c .before .pre .0) in
@@ -40,17 +37,11 @@ loop-holds c =
 burst-after-requires : tie.Need-burst-after-requires Inv-loop μ-loop
 burst-after-requires c κs = (c .loop-test .taken, c .before .before .before .before .pre .1)
 
-add-done : tie.Need-add-done Inv-loop μ-loop
-add-done c = let t = turn-at (c .before) in omega arith
-
 add-bursts : tie.Need-add-bursts Inv-loop μ-loop
 add-bursts c =
     let f = c .before .before .before .before .before .before in
     let t = turn-at (c .before) in
     omega (arith, ap length (rest-all (f .args .width) (f .args .beats) (f .args .start) (f .args .count)), rest-count (f .args .width) (f .args .beats) (f .args .start) (f .args .count) (f .pre .0) 0)
-
-loop-less : tie.Need-loop-less Inv-loop μ-loop
-loop-less c = let t = turn-at (c .before) in omega arith
 
 loop-again : tie.Need-loop-again Inv-loop μ-loop
 loop-again c = let t = turn-at (c .before) in (t .walk, omega arith)
@@ -66,12 +57,12 @@ count-bursts-spec =
     (tie.spec
     Inv-loop
     μ-loop
-    span-requires
+    (λ c κs. search needs)
     words-left-requires
     loop-holds
     burst-after-requires
-    add-done
+    (λ c. let t = turn-at (c .before) in omega arith)
     add-bursts
-    loop-less
+    (λ c. let t = turn-at (c .before) in omega arith)
     loop-again
     returns)

@@ -20,15 +20,9 @@ legal-at c = sym (c .before .legal .ensures) ∙ not-false _ (c .if1 .left)
 range-at : (c : tie.Else2) → outOfRange (c .before .before .before .before .args .start) (c .before .before .before .before .args .count) ≡ false
 range-at c = sym (c .before .out-of-range .ensures) ∙ c .if2 .left
 
-legal-requires : tie.Need-legal-requires
-legal-requires c κs = search needs
-
 returns : tie.Need-returns
 unfolding measureOf
 returns c = no _ (sym (c .before .legal .ensures) ∙ not-true _ (c .if1 .taken)) refl
-
-out-of-range-requires : tie.Need-out-of-range-requires
-out-of-range-requires c κs = search needs
 
 returns-2 : tie.Need-returns-2
 unfolding measureOf
@@ -38,12 +32,6 @@ count-bursts-requires : tie.Need-count-bursts-requires
 count-bursts-requires c κs =
     let a = c .before .before .before .before .args in
     (legal-at (c .before .before), in-range (a .start) (a .count) (range-at c) .inside)
-
-cast-if3 : tie.Need-cast-if3
-cast-if3 c = search needs
-
-mul-if3 : tie.Need-mul-if3
-mul-if3 c = search needs
 
 returns-3 : tie.Need-returns-3
 unfolding measureOf
@@ -66,12 +54,12 @@ pub measure-spec : {M : Type 1} → statement M
 measure-spec =
     tie.close
     (tie.spec
-    legal-requires
+    (λ c κs. search needs)
     returns
-    out-of-range-requires
+    (λ c κs. search needs)
     returns-2
     count-bursts-requires
-    cast-if3
-    mul-if3
+    (λ c. search needs)
+    (λ c. search needs)
     returns-3
     returns-4)

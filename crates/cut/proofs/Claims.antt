@@ -1,6 +1,5 @@
 -- The claims of specs/Claims.antt.
-use mathlib.Core.Path.{_≡_, sym, _∙_}
-use Prim.Native.Nat.{ℕ}
+use mathlib.Core.Path.{sym, _∙_}
 use Rattle.cut.specs.Claims.{Claims, Unique}
 use Rattle.cut.proofs.Reach.{burst-bytes}
 use Rattle.cut.proofs.Shortest.{well-cut}

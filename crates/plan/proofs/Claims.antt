@@ -1,15 +1,13 @@
 -- The claims of specs/Claims.antt.
 use mathlib.Core.Path.{_≡_, refl, sym, ap, ap₂, subst, _∙_}
-use Prim.Native.Nat.{ℕ, zero, suc, _+_, _*_, _/_, _%_, _≤_, _<_, _^_}
-use mathlib.Core.Bool.{true}
+use Prim.Native.Nat.{ℕ, _+_, _*_, _/_, _%_, _≤_, _<_, _^_}
 use mathlib.Core.List.{List, [], _∷_, _++_}
 use lib.ListN.{length, drop}
 use lib.Seq.{sets, sets-eq, length-sets, drop-append-seam}
-use lib.Dec.{eqb}
 use native.Mathlib.Nat.{zero-add}
 use native.Mathlib.Omega.{arith}
 use borrow.Author.Tests.{ne-eqb}
-use Rattle.kit.specs.Word.{joined, bytesOf}
+use Rattle.kit.specs.Word.{joined}
 use Rattle.kit.proofs.Choice.{no}
 use Rattle.kit.proofs.Legal.{legal}
 use Rattle.kit.proofs.Numbers.{number-tells}
@@ -18,9 +16,9 @@ use Rattle.cut.specs.Cut.{cut}
 use Rattle.cut.specs.Legal.{Tiles, stop, WellCut}
 use Rattle.cut.proofs.Shortest.{well-cut}
 use Rattle.plan.specs.declared.measure.Planned.{Planned}
-use Rattle.plan.specs.Plan.{Measured, measureOf, measured, placesOf, Plan, written, planOf, seen}
+use Rattle.plan.specs.Plan.{Measured, measureOf, placesOf, Plan, written, seen}
 use Rattle.plan.specs.Claims.{burstsIn, burstsInBytes, WellPlanned, Unchanged, Claims, Unique}
-use Rattle.plan.proofs.Planning.{Planable, planable, refused-none, given}
+use Rattle.plan.proofs.Planning.{Planable, planable, refused-none}
 use Rattle.plan.proofs.Filling.{little}
 
 -- ---- bursts read back from what is written
@@ -119,9 +117,14 @@ same-plan {p} {q} e f =
     let bursts = ap (λ (y : Plan). y .bursts) same in
     (λ i. record { answer = answers i; bursts = bursts i }, ap (λ (y : Plan). y .places) same)
 
+-- a measure, as the plan of an empty slice
+bare : Measured → Plan
+bare m = record { answer = m .answer; bursts = m .bursts; places = [] }
+
 pub plan-unique : Unique
+unfolding bare
 plan-unique = record {
-  measure = λ w l start count room p q e f. same-plan {a = []} {b = []} (ap (λ (m : Measured). given (m .answer) (m .bursts) []) e) (ap (λ (m : Measured). given (m .answer) (m .bursts) []) f) .0;
+  measure = λ w l start count room p q e f. same-plan (ap bare e) (ap bare f) .0;
   plan = λ w l start count places a b p q e f. same-plan e f;
   plan-bytes = λ w l start count places a b p q e f. same-plan e f;
 }

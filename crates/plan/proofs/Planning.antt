@@ -16,7 +16,7 @@ use Rattle.kit.specs.Answer.{numberOf}
 use Rattle.kit.proofs.Choice.{yes, no, cases, decide, never}
 use Rattle.cut.specs.Cut.{cut}
 use Rattle.plan.specs.declared.measure.Planned.{Planned}
-use Rattle.plan.specs.Plan.{outOfRange, Measured, refusal, measureOf, Plan, written, measured, seen}
+use Rattle.plan.specs.Plan.{outOfRange, Measured, refusal, measureOf, written, measured, seen}
 
 -- the code compares lengths, and never makes the sum
 pub past-end : (start count : ℕ) → start ≤ addressEnd → ltb (addressEnd - start) count ≡ ltb addressEnd (start + count)
@@ -85,23 +85,17 @@ refused-none w l start count room =
     P : Measured → Type 0
     P m = (m .answer ≡ 0 → ⊥) → m .bursts ≡ 0
 
--- what a caller sees of a result whose answer has the number k
-abbrev pub given : ℕ → ℕ → List ℕ → Plan
-given k bursts places = record { answer = k; bursts = bursts; places = places }
-
 -- a measured plan of number 0 that wrote its values, and one of another number that wrote nothing, are what is promised
 module _ (r : Planned) {m : Measured} (measures : measured r ≡ m) {k : ℕ} (numbered : k ≡ numberOf (r .answer)) (values places : List ℕ) where
   pub zero-answer : k ≡ 0 → m .answer ≡ 0
   zero-answer z = sym (ap (λ (x : Measured). x .answer) measures) ∙ sym numbered ∙ z
 
-  pub writes : {out : List ℕ} → k ≡ 0 → out ≡ sets places 0 values → given k (r .bursts) out ≡ written m values places
-  writes {out} z e =
-      ap (λ (x : ℕ). given x (r .bursts) out) numbered
-      ∙ ap (given (numberOf (r .answer)) (r .bursts)) (yes places (eq-eqb (numberOf (r .answer)) 0 (sym numbered ∙ z)) e)
-      ∙ ap (λ (x : Measured). written x values places) measures
+  -- with this slice afterwards, the result is as promised
+  left : (out : List ℕ) → out ≡ when (eqb (numberOf (r .answer)) 0) (sets places 0 values) places → seen r out ≡ written m values places
+  left out e = ap (seen r) e ∙ ap (λ (x : Measured). written x values places) measures
 
-  pub keeps : (k ≡ 0 → ⊥) → given k (r .bursts) places ≡ written m values places
-  keeps z =
-      ap (λ (x : ℕ). given x (r .bursts) places) numbered
-      ∙ ap (given (numberOf (r .answer)) (r .bursts)) (no (sets places 0 values) (ne-eqb (numberOf (r .answer)) 0 (λ e. z (numbered ∙ e))) refl)
-      ∙ ap (λ (x : Measured). written x values places) measures
+  pub writes : (out : List ℕ) → k ≡ 0 → out ≡ sets places 0 values → seen r out ≡ written m values places
+  writes out z e = left out (yes places (eq-eqb (numberOf (r .answer)) 0 (sym numbered ∙ z)) e)
+
+  pub keeps : (k ≡ 0 → ⊥) → seen r places ≡ written m values places
+  keeps z = left places (no (sets places 0 values) (ne-eqb (numberOf (r .answer)) 0 (λ e. z (numbered ∙ e))) refl)

@@ -5,8 +5,5 @@ use borrow.Author.Needs.{needs}
 use Rattle.cut.proofs.span.Statement.{statement}
 use Rattle.cut.proofs.span.Tie as tie
 
-mul-result : tie.Need-mul-result
-mul-result c = fits-le (mul-le-mul {n₂ = 2 ^ 32 - 1} {m₂ = 2 ^ 32 - 1} (search needs) (search needs)) (fits-lit tt)
-
 pub span-spec : {M : Type 1} → statement M
-span-spec = tie.close (tie.spec mul-result (λ c. search needs))
+span-spec = tie.close (tie.spec (λ c. fits-le (mul-le-mul {n₂ = 2 ^ 32 - 1} {m₂ = 2 ^ 32 - 1} (search needs) (search needs)) (fits-lit tt)) (λ c. search needs))

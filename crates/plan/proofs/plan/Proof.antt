@@ -1,5 +1,4 @@
-use mathlib.Core.Path.{sym, ap, _∙_}
-use Prim.Native.Nat.{ℕ, _+_}
+use Prim.Native.Nat.{_+_}
 use native.Mathlib.Omega.{arith}
 use borrow.Author.Needs.{needs}
 use denote.Ref.{now}
@@ -7,7 +6,7 @@ use mathlib.Core.List.{[]}
 use lib.ListN.{length}
 use Rattle.cut.specs.Cut.{cut}
 use Rattle.plan.specs.Plan.{placesOf}
-use Rattle.plan.proofs.Planning.{planable, zero-answer, given, writes, keeps}
+use Rattle.plan.proofs.Planning.{planable, zero-answer, writes, keeps}
 use Rattle.plan.proofs.plan.Statement.{statement}
 use Rattle.plan.proofs.plan.Tie as tie
 
@@ -23,15 +22,16 @@ returns : tie.Need-returns
 returns c =
     let a = c .before .before .before .before .before .before .before .before .args in
     let m = c .before .before .before .before .before .before .measure in
-    let k = c .before .before .before .before .before .number .ensures in
-    ap (λ (x : ℕ). given x (m .result .bursts) (c .before .before .places .last .1 .1 .1 .1 .0)) (sym k) ∙ writes (m .result) (m .ensures) k (placesOf (cut (a .width) (a .beats) (a .start) (a .start + a .count))) (now (a .places)) (c .before .before .before .before .if1 .taken) (c .before .before .places .ensures)
+    writes (m .result) (m .ensures) (c .before .before .before .before .before .number .ensures)
+    (placesOf (cut (a .width) (a .beats) (a .start) (a .start + a .count))) (now (a .places)) _
+    (c .before .before .before .before .if1 .taken) (c .before .before .places .ensures)
 
 returns-2 : tie.Need-returns-2
 returns-2 c =
     let a = c .before .before .before .before .args in
     let m = c .before .before .measure in
-    let k = c .before .number .ensures in
-    ap (λ (x : ℕ). given x (m .result .bursts) (now (a .places))) (sym k) ∙ keeps (m .result) (m .ensures) k (placesOf (cut (a .width) (a .beats) (a .start) (a .start + a .count))) (now (a .places)) (c .if1 .left)
+    keeps (m .result) (m .ensures) (c .before .number .ensures)
+    (placesOf (cut (a .width) (a .beats) (a .start) (a .start + a .count))) (now (a .places)) (c .if1 .left)
 
 pub plan-spec : {M : Type 1} → statement M
 plan-spec =

@@ -1,14 +1,11 @@
 use mathlib.Core.Path.{refl, ap, _∙_}
 use Prim.Native.Nat.{ℕ, _+_, _-_}
 use native.Mathlib.Omega.{arith}
-use mathlib.Core.List.{List, [], _∷_}
-use lib.ListN.{length}
-use lib.Seq.{sets, length-sets}
+use mathlib.Core.List.{List}
+use lib.Seq.{sets}
 use denote.Ref.{now}
 use borrow.Author.Needs.{needs}
 use Rattle.kit.proofs.Legal.{legal}
-use Rattle.cut.specs.declared.Burst.{Burst}
-use Rattle.plan.specs.Plan.{littleOf}
 use Rattle.plan.proofs.Walking.{Turn, turn}
 use Rattle.plan.proofs.Filling.{little, Filling, fill-begins, fill-goes-on, fill-ends, little-stored}
 use Rattle.plan.proofs.fill.bytes.Statement.{statement}
@@ -40,18 +37,6 @@ loop-holds c =
     let f = c .before .before .before in
     fill-begins little 8 (f .args .width) (f .args .beats) (f .args .start) (f .args .count) (c .before .span .result) (now (f .args .places)) (c .before .span .ensures) (c .words-left .ensures) (f .pre .1 .1)
 
-burst-after-requires : tie.Need-burst-after-requires Inv-loop μ-loop
-burst-after-requires c κs = (c .loop-test .taken, c .before .before .before .before .before .pre .1 .0)
-
-add-place : tie.Need-add-place Inv-loop μ-loop
-add-place c = let t = turn-at (c .before .before .before .before) in omega arith
-
-add-done : tie.Need-add-done Inv-loop μ-loop
-add-done c = let t = turn-at (c .before .before .before .before .before) in omega arith
-
-loop-less : tie.Need-loop-less Inv-loop μ-loop
-loop-less c = let t = turn-at (c .before .before .before .before .before) in omega arith
-
 loop-again : tie.Need-loop-again Inv-loop μ-loop
 loop-again c =
     let d = c .before .before .before .before .before in
@@ -62,9 +47,6 @@ loop-again c =
     fill-goes-on little 8 (f .args .width) (f .args .beats) (f .args .start) (f .args .count) (d .before .before .before .before .span .result) (now (f .args .places))
     (v .inv) (turn-at d) (s .last .0) (s .kept .0)
     (λ more. ap (λ (m : List ℕ). sets m (v .place + 8) (little more)) (s .ensures) ∙ little-stored (v .places) (v .place) b more)
-
-same-length : tie.Need-same-length Inv-loop μ-loop
-same-length c = c .before .loop .inv .kept
 
 returns : tie.Need-returns Inv-loop μ-loop
 returns c =
@@ -80,11 +62,11 @@ bytes-spec =
     (λ c κs. search needs)
     words-left-requires
     loop-holds
-    burst-after-requires
+    (λ c κs. (c .loop-test .taken, c .before .before .before .before .before .pre .1 .0))
     (λ c κs. let t = turn-at (c .before) in omega arith)
-    add-place
-    add-done
-    loop-less
+    (λ c. let t = turn-at (c .before .before .before .before) in omega arith)
+    (λ c. let t = turn-at (c .before .before .before .before .before) in omega arith)
+    (λ c. let t = turn-at (c .before .before .before .before .before) in omega arith)
     loop-again
-    same-length
+    (λ c. c .before .loop .inv .kept)
     returns)

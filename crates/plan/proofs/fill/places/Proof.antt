@@ -1,5 +1,5 @@
-use mathlib.Core.Path.{refl, _∙_}
-use Prim.Native.Nat.{_+_, _-_}
+use mathlib.Core.Path.{refl}
+use Prim.Native.Nat.{_-_}
 use native.Mathlib.Omega.{arith}
 use lib.ListN.{length-set}
 use denote.Ref.{now}
@@ -37,21 +37,12 @@ loop-holds c =
     let f = c .before .before .before in
     fill-begins placesOf 2 (f .args .width) (f .args .beats) (f .args .start) (f .args .count) (c .before .span .result) (now (f .args .places)) (c .before .span .ensures) (c .words-left .ensures) (f .pre .1 .1)
 
-burst-after-requires : tie.Need-burst-after-requires Inv-loop μ-loop
-burst-after-requires c κs = (c .loop-test .taken, c .before .before .before .before .before .pre .1 .0)
-
-slice-write-places-2 : tie.Need-slice-write-places-2 Inv-loop μ-loop
-slice-write-places-2 c = let t = turn-at c in simp length-set (omega arith)
-
 loop-again : tie.Need-loop-again Inv-loop μ-loop
 loop-again c =
     let f = c .before .before .before .before .before .before .before in
     let v = c .before .before .before .loop in
     fill-goes-on placesOf 2 (f .args .width) (f .args .beats) (f .args .start) (f .args .count) (c .before .before .before .before .before .span .result) (now (f .args .places))
     (v .inv) (turn-at (c .before)) _ (simp length-set) (places-stored (v .places) (v .place) (c .before .burst-after .result))
-
-same-length : tie.Need-same-length Inv-loop μ-loop
-same-length c = c .before .loop .inv .kept
 
 returns : tie.Need-returns Inv-loop μ-loop
 returns c =
@@ -67,15 +58,15 @@ places-spec =
     (λ c κs. search needs)
     words-left-requires
     loop-holds
-    burst-after-requires
+    (λ c κs. (c .loop-test .taken, c .before .before .before .before .before .pre .1 .0))
     (λ c. let t = turn-at c in omega arith)
     (λ c. let t = turn-at c in omega arith)
     (λ c. let t = turn-at c in omega arith)
     (λ c. let t = turn-at c in omega arith)
-    slice-write-places-2
+    (λ c. let t = turn-at c in simp length-set (omega arith))
     (λ c. let t = turn-at c in omega arith)
     (λ c. let t = turn-at (c .before) in omega arith)
     (λ c. let t = turn-at (c .before) in omega arith)
     loop-again
-    same-length
+    (λ c. c .before .loop .inv .kept)
     returns)

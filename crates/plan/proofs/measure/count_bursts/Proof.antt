@@ -34,17 +34,11 @@ loop-holds c =
     let a = c .before .before .args in
     (set-out (a .width) (a .beats) (a .start) (a .count) (c .before .span .ensures) (c .words-left .ensures), omega (arith, ap length (rest-all (a .width) (a .beats) (a .start) (a .count))))
 
-burst-after-requires : tie.Need-burst-after-requires Inv-loop μ-loop
-burst-after-requires c κs = (c .loop-test .taken, c .before .before .before .before .pre .1)
-
 add-bursts : tie.Need-add-bursts Inv-loop μ-loop
 add-bursts c =
     let f = c .before .before .before .before .before .before in
     let t = turn-at (c .before) in
     omega (arith, ap length (rest-all (f .args .width) (f .args .beats) (f .args .start) (f .args .count)), rest-count (f .args .width) (f .args .beats) (f .args .start) (f .args .count) (f .pre .0) 0)
-
-loop-again : tie.Need-loop-again Inv-loop μ-loop
-loop-again c = let t = turn-at (c .before) in (t .walk, omega arith)
 
 returns : tie.Need-returns Inv-loop μ-loop
 returns c =
@@ -60,9 +54,9 @@ count-bursts-spec =
     (λ c κs. search needs)
     words-left-requires
     loop-holds
-    burst-after-requires
+    (λ c κs. (c .loop-test .taken, c .before .before .before .before .pre .1))
     (λ c. let t = turn-at (c .before) in omega arith)
     add-bursts
     (λ c. let t = turn-at (c .before) in omega arith)
-    loop-again
+    (λ c. let t = turn-at (c .before) in (t .walk, omega arith))
     returns)

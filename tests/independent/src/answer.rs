@@ -29,9 +29,11 @@ pub const PLACE: u32 = 12;
 /// Bus clock field out of range.
 pub const FIELD: u32 = 13;
 
-/// Are width and beats both on the lists of answer 1?
+/// Are width and beats both on the lists of answer 1? These are powers of two without a gap.
 #[inline]
 pub fn settings_listed(width: u32, beats: u32) -> bool {
-    matches!(width, 4 | 8 | 16 | 32 | 64 | 128)
-        && matches!(beats, 2 | 4 | 8 | 16 | 32 | 64 | 128 | 256)
+    width.is_power_of_two()
+        & (4..=128).contains(&width)
+        & beats.is_power_of_two()
+        & (2..=256).contains(&beats)
 }

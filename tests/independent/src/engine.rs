@@ -174,16 +174,14 @@ impl Engine {
         }
     }
 
-    /// The refusals 1, 9, 3 which a read and a write share.
+    /// The refusals 1 and 9, which a read and a write share.
     #[inline]
-    fn admit_access(&self, offset: u32) -> u32 {
+    fn admit_access(&self) -> u32 {
         if !answer::settings_listed(self.width, self.beats) {
             answer::SETTINGS
         } else if !self.well_formed() {
             // Reading: a bad offset on a state not well formed is 9, and Reset does not rescue it.
             answer::STATE
-        } else if offset > 0x28 || offset & 3 != 0 {
-            answer::OFFSET
         } else {
             answer::DONE
         }
@@ -225,10 +223,15 @@ impl Engine {
 
     /// Reads a register: the answer and the value (0 beside every answer but 0).
     pub fn read(&self, offset: u32) -> (u32, u32) {
-        let answer = self.admit_access(offset);
-        if answer != answer::DONE {
-            return (answer, 0);
+        match self.admit_access() {
+            answer::DONE => self.read_admitted(offset),
+            answer => (answer, 0),
         }
+    }
+
+    /// A read of an engine that is not refused.
+    #[inline]
+    pub(crate) fn read_admitted(&self, offset: u32) -> (u32, u32) {
         let value = match offset {
             0x00 => self.control_word(),
             0x04 => self.status_word(),
@@ -237,17 +240,23 @@ impl Engine {
             0x18 => self.sa,
             0x20 => self.da,
             0x28 => self.btt,
-            _ => 0, // upper halves
+            0x0c | 0x14 | 0x1c | 0x24 => 0, // upper halves
+            _ => return (answer::OFFSET, 0),
         };
         (answer::DONE, value)
     }
 
     /// Writes a register. Each rule below puts 5 before 4 (reading: both fit, then 5).
     pub fn write(&mut self, offset: u32, value: u32) -> u32 {
-        let answer = self.admit_access(offset);
-        if answer != answer::DONE {
-            return answer;
+        match self.admit_access() {
+            answer::DONE => self.write_admitted(offset, value),
+            answer => answer,
         }
+    }
+
+    /// A write to an engine that is not refused.
+    #[inline]
+    pub(crate) fn write_admitted(&mut self, offset: u32, value: u32) -> u32 {
         let busy = !self.idle();
         match offset {
             0x00 => {
@@ -278,7 +287,8 @@ impl Engine {
                 return self.write_transfer(offset, value, busy);
             }
             // Upper halves. Reading: answer 0 in every state that is well formed.
-            _ => {}
+            0x0c | 0x14 | 0x1c | 0x24 => {}
+            _ => return answer::OFFSET,
         }
         answer::DONE
     }
@@ -364,16 +374,21 @@ impl Engine {
             return (answer, 0);
         }
         let mut steps = 0;
-        while steps < n && !self.idle() {
-            // A transfer takes all its good bursts at once, and leaves one that fails to a step.
-            if let Phase::Move(transfer) = self.phase {
-                let taken = self.good_bursts(memory, windows, transfer, n - steps, &mut tell);
-                if taken > 0 {
-                    steps += taken;
-                    continue;
+        while steps < n {
+            match self.phase {
+                Phase::Idle => break,
+                Phase::Fetch => tell(self.fetch(memory, windows)),
+                Phase::Move(transfer) => {
+                    let taken = self.good_bursts(memory, windows, transfer, n - steps, &mut tell);
+                    // A burst that fails is left to a step of its own.
+                    if taken > 0 {
+                        steps += taken;
+                        continue;
+                    }
+                    tell(self.burst(memory, windows, transfer));
                 }
+                Phase::Update(outcome) => tell(self.update(memory, windows, outcome)),
             }
-            tell(self.advance(memory, windows));
             steps += 1;
         }
         (answer::DONE, steps)
@@ -413,7 +428,7 @@ impl Engine {
     }
 
     /// The phase after good bursts. Chain mode goes to update after the last one, simple mode ends.
-    #[inline]
+    #[inline(always)]
     fn moved_to(&mut self, transfer: Transfer) -> Phase {
         if transfer.moved < transfer.total {
             Phase::Move(transfer)
@@ -431,8 +446,8 @@ impl Engine {
     }
 
     /// One step without the refusals: they are judged, and steps keep the state well formed.
-    #[inline]
-    pub(crate) fn advance(&mut self, memory: &mut [u8], windows: &[Window]) -> Event {
+    #[inline(always)]
+    fn advance(&mut self, memory: &mut [u8], windows: &[Window]) -> Event {
         match self.phase {
             Phase::Idle => Event::None,
             Phase::Fetch => self.fetch(memory, windows),
@@ -442,6 +457,7 @@ impl Engine {
     }
 
     /// Fetch. Reading: tests in the order decode, slave, stale, zero count.
+    #[inline(always)]
     fn fetch(&mut self, memory: &[u8], windows: &[Window]) -> Event {
         let current = self.current;
         let failed = match memory::verdict(memory.len(), windows, [current], DESCRIPTOR as u32) {
@@ -464,7 +480,7 @@ impl Engine {
     }
 
     /// A good fetch: holds the next pointer, and goes to update (count 0) or to move.
-    #[inline]
+    #[inline(always)]
     fn take(&mut self, descriptor: &[u8; DESCRIPTOR]) -> Event {
         self.held_next = word(descriptor, 0x00) & POINTER_BITS;
         let total = word(descriptor, 0x18) & BTT_BITS;
@@ -480,7 +496,7 @@ impl Engine {
 
     /// Move of one burst. Reading: the cut follows the destination only, and a transfer whose
     /// destination + total passes 2^32 has its burst at the top end by decode error.
-    #[inline]
+    #[inline(always)]
     fn burst(&mut self, memory: &mut [u8], windows: &[Window], transfer: Transfer) -> Event {
         let Transfer { source, destination, total, moved } = transfer;
         let from = source + moved;
@@ -506,6 +522,7 @@ impl Engine {
     }
 
     /// Update of the status word. Reading: judges 4 bytes and writes the whole word.
+    #[inline(always)]
     fn update(&mut self, memory: &mut [u8], windows: &[Window], outcome: Outcome) -> Event {
         let current = self.current;
         let status = current + STATUS; // current is a multiple of 64

@@ -66,10 +66,10 @@ fn eight_digits(value: u32) -> u64 {
     let (high, low) = (value / 10_000, value % 10_000);
     let halves = u64::from(high) | u64::from(low) << 32;
     // Multiplied by 10,486 and shifted is divided by 100, for a number below 10,000.
-    let hundreds = halves * 10_486 >> 20 & 0x0000_007f_0000_007f;
+    let hundreds = ((halves * 10_486) >> 20) & 0x0000_007f_0000_007f;
     let quarters = hundreds | (halves - 100 * hundreds) << 16;
     // And by 103 is divided by 10, for a number below 100.
-    let tens = quarters * 103 >> 10 & 0x000f_000f_000f_000f;
+    let tens = ((quarters * 103) >> 10) & 0x000f_000f_000f_000f;
     tens | (quarters - 10 * tens) << 8
 }
 

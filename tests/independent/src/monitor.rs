@@ -23,13 +23,15 @@ pub struct Clock {
 impl Clock {
     #[inline]
     fn in_range(&self) -> bool {
-        (self.length <= 255)
-            & (self.size <= 7)
-            & (self.burst <= 3)
-            & (self.cache <= 15)
-            & (self.prot <= 7)
-            & (self.qos <= 15)
-            & (self.region <= 15)
+        // The bits that no field in range has, all at once.
+        let beyond = self.length >> 8
+            | self.size >> 3
+            | self.burst >> 2
+            | self.cache >> 4
+            | self.prot >> 3
+            | self.qos >> 4
+            | self.region >> 4;
+        beyond == 0
     }
 }
 
@@ -42,75 +44,48 @@ pub struct Monitor {
     pub before: Clock,
 }
 
+/// The bit of a flag, if it is up. No branch: which flags are up is hard to foretell.
+#[inline(always)]
+fn flag(number: u32, up: bool) -> u64 {
+    u64::from(up) << number
+}
+
+/// Flags that count only if `so`.
+#[inline(always)]
+fn only_if(so: bool, flags: u64) -> u64 {
+    u64::from(so).wrapping_neg() & flags
+}
+
 /// Flags 37 to 44, of a clock out of reset with valid high.
-#[inline]
+#[inline(always)]
 fn address_flags(width: u32, clock: &Clock) -> u64 {
-    let mut flags = 0;
-    let word = 1u64 << clock.size;
-    let beats = u64::from(clock.length) + 1;
-    let address = u64::from(clock.address);
-    // Reading: the last byte is reckoned without wrapping.
-    let last = (address & !(word - 1)) + beats * word - 1;
-    if clock.burst == 1 && last >> 12 != address >> 12 {
-        flags |= 1 << 37;
-    }
-    if clock.burst == 2 && address & (word - 1) != 0 {
-        flags |= 1 << 38;
-    }
-    if clock.burst == 3 {
-        flags |= 1 << 39;
-    }
-    if clock.cache & 0b0010 == 0 && clock.cache & 0b1100 != 0 {
-        flags |= 1 << 41;
-    }
-    if clock.burst == 0 && beats > 16 {
-        flags |= 1 << 42;
-    }
-    if clock.burst == 2 && !matches!(beats, 2 | 4 | 8 | 16) {
-        flags |= 1 << 43;
-    }
-    if word > u64::from(width) {
-        flags |= 1 << 44;
-    }
-    flags
+    let word = 1 << clock.size;
+    let beats = clock.length + 1;
+    // Reading: the last byte is reckoned without wrapping; so it is within the page.
+    let last = (clock.address & 0xfff & !(word - 1)) + beats * word - 1;
+    flag(37, (clock.burst == 1) & (last > 0xfff))
+        | flag(38, (clock.burst == 2) & (clock.address & (word - 1) != 0))
+        | flag(39, clock.burst == 3)
+        | flag(41, (clock.cache & 0b0010 == 0) & (clock.cache & 0b1100 != 0))
+        | flag(42, (clock.burst == 0) & (beats > 16))
+        | flag(43, (clock.burst == 2) & !matches!(beats, 2 | 4 | 8 | 16))
+        | flag(44, word > width)
 }
 
 /// Flags 46 to 56, of a clock out of reset after one that was valid and not ready.
 /// Reading: this clock need not be valid, and ready is never compared.
-#[inline]
+#[inline(always)]
 fn change_flags(before: &Clock, clock: &Clock) -> u64 {
-    let mut flags = 0;
-    if clock.address != before.address {
-        flags |= 1 << 46;
-    }
-    if clock.burst != before.burst {
-        flags |= 1 << 47;
-    }
-    if clock.cache != before.cache {
-        flags |= 1 << 48;
-    }
-    if clock.id != before.id {
-        flags |= 1 << 49;
-    }
-    if clock.length != before.length {
-        flags |= 1 << 50;
-    }
-    if clock.prot != before.prot {
-        flags |= 1 << 52;
-    }
-    if clock.size != before.size {
-        flags |= 1 << 53;
-    }
-    if clock.qos != before.qos {
-        flags |= 1 << 54;
-    }
-    if clock.region != before.region {
-        flags |= 1 << 55;
-    }
-    if !clock.valid {
-        flags |= 1 << 56;
-    }
-    flags
+    flag(46, clock.address != before.address)
+        | flag(47, clock.burst != before.burst)
+        | flag(48, clock.cache != before.cache)
+        | flag(49, clock.id != before.id)
+        | flag(50, clock.length != before.length)
+        | flag(52, clock.prot != before.prot)
+        | flag(53, clock.size != before.size)
+        | flag(54, clock.qos != before.qos)
+        | flag(55, clock.region != before.region)
+        | flag(56, !clock.valid)
 }
 
 impl Monitor {
@@ -128,28 +103,22 @@ impl Monitor {
         if !clock.in_range() {
             return answer::FIELD;
         }
-        if !clock.reset_high {
-            self.flags = 0;
-            self.snapshot = 0;
-        } else {
-            let before = &self.before;
-            let mut flags = self.flags;
-            if clock.valid {
-                flags |= address_flags(width, clock);
-                if !before.reset_high {
-                    flags |= 1 << 45;
-                }
-            }
-            if before.reset_high && before.valid && !before.ready {
-                flags |= change_flags(before, clock);
-            }
-            if self.flags == 0 && flags != 0 {
-                self.snapshot = flags;
-            }
-            self.flags = flags;
-        }
-        self.before = *clock;
+        self.take(width, clock);
         answer::DONE
+    }
+
+    /// Takes a clock that is not refused.
+    #[inline]
+    pub(crate) fn take(&mut self, width: u32, clock: &Clock) {
+        let before = &self.before;
+        let held = before.reset_high & before.valid & !before.ready;
+        let new = only_if(clock.valid, address_flags(width, clock) | flag(45, !before.reset_high))
+            | only_if(held, change_flags(before, clock));
+        let flags = only_if(clock.reset_high, self.flags | new);
+        let rises = (self.flags == 0) & (flags != 0);
+        self.snapshot = only_if(clock.reset_high, if rises { flags } else { self.snapshot });
+        self.flags = flags;
+        self.before = *clock;
     }
 
     /// How many flags are up. Reading: of all flags that stand.

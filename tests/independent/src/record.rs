@@ -36,6 +36,15 @@ pub struct Bus {
 }
 
 impl Bus {
+    /// Is each field in its range? All are judged at once, by the bits that none in range has.
+    #[inline]
+    pub fn in_range(&self) -> bool {
+        let Bus { bits, length, size, burst, cache, prot, qos, region, .. } = *self;
+        let fields = [bits, length, size, burst, cache, prot, qos, region];
+        let beyond = [!7, 0, !7, !3, !15, !7, !15, !15];
+        u64::from_le_bytes(fields) & u64::from_le_bytes(beyond) == 0
+    }
+
     /// The clock, which has three of the bits.
     #[inline]
     pub fn clock(&self) -> Clock {
@@ -104,20 +113,55 @@ fn u32_at(bytes: &[u8], at: usize) -> u32 {
     u32::from_le_bytes([bytes[at], bytes[at + 1], bytes[at + 2], bytes[at + 3]])
 }
 
-/// Reads the record at the front: its sequence number, its body and what is behind it, or why it
-/// gets answer 10. `first` says that it is the trace's first.
-#[inline]
-pub fn read(input: &[u8], first: bool) -> Result<(u32, Record<&[u8]>, &[u8]), Cause> {
-    let Some((head, mut rest)) = input.split_first_chunk::<6>() else {
+/// What is done with a record that was read. It is a trait and no closure, so that each kind of
+/// record is compiled together with what is done with it, and is never put together in between.
+pub(crate) trait Taker<'a> {
+    type Given;
+
+    /// Takes a record's number and body, and what is behind it.
+    fn take(self, sequence: u32, record: Record<&'a [u8]>, behind: &'a [u8]) -> Self::Given;
+}
+
+/// A record's sequence number and body, and what is behind it.
+pub type Parts<'a> = (u32, Record<&'a [u8]>, &'a [u8]);
+
+/// Hands the parts back.
+struct HandBack;
+
+impl<'a> Taker<'a> for HandBack {
+    type Given = Parts<'a>;
+
+    #[inline(always)]
+    fn take(self, sequence: u32, record: Record<&'a [u8]>, behind: &'a [u8]) -> Self::Given {
+        (sequence, record, behind)
+    }
+}
+
+/// Reads the record at the front, or says why it gets answer 10. `first` says that it is the
+/// trace's first.
+pub fn read(trace: &[u8], first: bool) -> Result<Parts<'_>, Cause> {
+    read_to(HandBack, trace, first)
+}
+
+/// The same for a taker.
+#[inline(always)]
+pub(crate) fn read_to<'a, T: Taker<'a>>(
+    taker: T,
+    trace: &'a [u8],
+    first: bool,
+) -> Result<T::Given, Cause> {
+    let Some((head, mut rest)) = trace.split_first_chunk::<6>() else {
         return Err(Cause::CutInHead);
     };
-    let record = match [head[0], head[1]] {
+    let sequence = u32_at(head, 2);
+    match [head[0], head[1]] {
         [b'C', b'F'] => {
             if !first {
                 return Err(Cause::LateSettings);
             }
             let body: &[u8; 4] = take(&mut rest)?;
-            Record::Settings { width: u16_at(body, 0), beats: u16_at(body, 2) }
+            let record = Record::Settings { width: u16_at(body, 0), beats: u16_at(body, 2) };
+            Ok(taker.take(sequence, record, rest))
         }
         [b'M', b'M'] => {
             let body: &[u8; 6] = take(&mut rest)?;
@@ -129,40 +173,33 @@ pub fn read(input: &[u8], first: bool) -> Result<(u32, Record<&[u8]>, &[u8]), Ca
                 return Err(Cause::TooLong);
             }
             let bytes = rest.split_off(..usize::from(length)).ok_or(Cause::CutInBody)?;
-            Record::Memory { address: u32_at(body, 0), bytes }
+            Ok(taker.take(sequence, Record::Memory { address: u32_at(body, 0), bytes }, rest))
         }
         [b'S', b'W'] => {
             let body: &[u8; 8] = take(&mut rest)?;
-            Record::Window { start: u32_at(body, 0), length: u32_at(body, 4) }
+            let record = Record::Window { start: u32_at(body, 0), length: u32_at(body, 4) };
+            Ok(taker.take(sequence, record, rest))
         }
         [b'W', b'R'] => {
             let body: &[u8; 6] = take(&mut rest)?;
-            Record::Write { offset: u16_at(body, 0), value: u32_at(body, 2) }
+            let record = Record::Write { offset: u16_at(body, 0), value: u32_at(body, 2) };
+            Ok(taker.take(sequence, record, rest))
         }
         [b'R', b'D'] => {
             let body: &[u8; 2] = take(&mut rest)?;
-            Record::Read { offset: u16_at(body, 0) }
+            Ok(taker.take(sequence, Record::Read { offset: u16_at(body, 0) }, rest))
         }
         [b'S', b'T'] => {
             let body: &[u8; 2] = take(&mut rest)?;
-            Record::Steps { steps: u16_at(body, 0) }
+            Ok(taker.take(sequence, Record::Steps { steps: u16_at(body, 0) }, rest))
         }
         [b'A', b'R'] => {
             let body: &[u8; 16] = take(&mut rest)?;
-            Record::Bus(Bus {
-                bits: body[0],
-                length: body[1],
-                size: body[2],
-                burst: body[3],
-                cache: body[4],
-                prot: body[5],
-                qos: body[6],
-                region: body[7],
-                id: u32_at(body, 8),
-                address: u32_at(body, 12),
-            })
+            let (id, address) = (u32_at(body, 8), u32_at(body, 12));
+            let [bits, length, size, burst, cache, prot, qos, region, ..] = *body;
+            let bus = Bus { bits, length, size, burst, cache, prot, qos, region, id, address };
+            Ok(taker.take(sequence, Record::Bus(bus), rest))
         }
-        _ => return Err(Cause::UnknownMark),
-    };
-    Ok((u32_at(head, 2), record, rest))
+        _ => Err(Cause::UnknownMark),
+    }
 }

@@ -6,7 +6,7 @@ use crate::engine::{Engine, Event};
 use crate::listing::{self, Listing};
 use crate::memory::{Window, MOST_WINDOWS};
 use crate::monitor::Monitor;
-use crate::record::{self, Record};
+use crate::record::{self, Record, Taker};
 use std::io::{self, ErrorKind, Read, Write};
 
 /// Bytes of the program's memory.
@@ -105,29 +105,16 @@ impl Replay {
         listing: &mut Listing<To>,
         observer: &mut impl Observer,
     ) -> Result<&'a [u8], u32> {
+        let first = self.place == 0;
         // Reading: 10 (also cut short, late CF) before 11, and 11 before the record's own.
-        let Ok((sequence, record, behind)) = record::read(trace, self.place == 0) else {
-            return Err(answer::RECORD);
-        };
-        // Reading: a WR or RD with an old number is 11 too, and ends the replay.
-        if sequence <= self.last {
-            return Err(answer::SEQUENCE);
-        }
-        observer.record(self, &record);
-        listing.number(sequence);
-        let answer = self.carry_out(&record, listing, observer);
-        if answer != answer::DONE {
-            return Err(answer);
-        }
-        // Reading: a refused WR or RD is a good record and its number counts.
-        self.last = sequence;
-        observer.carried_out(self, &record);
-        Ok(behind)
+        let taking = Taking { replay: self, listing, observer };
+        record::read_to(taking, trace, first).unwrap_or(Err(answer::RECORD))
     }
 
     /// Carries out one record with its lines. An answer but 0 ends the replay; refused WR and RD
-    /// print their own lines and are good records.
-    #[inline]
+    /// print their own lines and are good records. The settings are listed and the engine is well
+    /// formed here at all times, so that accesses and clocks are not refused for these.
+    #[inline(always)]
     pub fn carry_out<To: Write>(
         &mut self,
         record: &Record<impl AsRef<[u8]>>,
@@ -164,23 +151,19 @@ impl Replay {
                 listing.line(listing::WINDOW, *start, *length);
             }
             Record::Write { offset, value } => {
-                let answer = self.engine.write(u32::from(*offset), *value);
+                let answer = self.engine.write_admitted(u32::from(*offset), *value);
                 listing.line(listing::WRITE, u32::from(*offset), answer);
             }
-            Record::Read { offset } => match self.engine.read(u32::from(*offset)) {
+            Record::Read { offset } => match self.engine.read_admitted(u32::from(*offset)) {
                 (answer::DONE, value) => listing.line(listing::READ, u32::from(*offset), value),
                 (answer, _) => listing.line(listing::NOREAD, u32::from(*offset), answer),
             },
             Record::Steps { steps } => return self.carry_out_steps(*steps, listing, observer),
             Record::Bus(bus) => {
-                if bus.bits > 7 {
+                if !bus.in_range() {
                     return answer::FIELD;
                 }
-                let (width, beats) = (self.engine.width, self.engine.beats);
-                let answer = self.monitor.clock(width, beats, &bus.clock());
-                if answer != answer::DONE {
-                    return answer;
-                }
+                self.monitor.take(self.engine.width, &bus.clock());
                 // Reading: a clock in reset prints `bus 0 0`.
                 listing.line(listing::BUS, self.monitor.count(), self.monitor.lowest());
             }
@@ -215,6 +198,36 @@ impl Replay {
         }
         listing.line(listing::STOP, u32::from(taken), u32::from(self.engine.idle()));
         answer::DONE
+    }
+}
+
+/// A replay that takes a record with a good form.
+struct Taking<'r, To: Write, Looking> {
+    replay: &'r mut Replay,
+    listing: &'r mut Listing<To>,
+    observer: &'r mut Looking,
+}
+
+impl<'a, To: Write, Looking: Observer> Taker<'a> for Taking<'_, To, Looking> {
+    type Given = Result<&'a [u8], u32>;
+
+    #[inline(always)]
+    fn take(self, sequence: u32, record: Record<&'a [u8]>, behind: &'a [u8]) -> Self::Given {
+        let Taking { replay, listing, observer } = self;
+        // Reading: a WR or RD with an old number is 11 too, and ends the replay.
+        if sequence <= replay.last {
+            return Err(answer::SEQUENCE);
+        }
+        observer.record(replay, &record);
+        listing.number(sequence);
+        let answer = replay.carry_out(&record, listing, observer);
+        if answer != answer::DONE {
+            return Err(answer);
+        }
+        // Reading: a refused WR or RD is a good record and its number counts.
+        replay.last = sequence;
+        observer.carried_out(replay, &record);
+        Ok(behind)
     }
 }
 

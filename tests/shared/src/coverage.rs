@@ -27,8 +27,9 @@ pub struct Counts {
 
 impl Counts {
     pub fn new(groups: &Groups, names: impl IntoIterator<Item = &'static str>) -> Counts {
-        let numbers =
-            groups.iter().flat_map(|(group, list)| list.iter().map(move |number| (*group, *number)));
+        let numbers = groups
+            .iter()
+            .flat_map(|(group, list)| list.iter().map(move |number| (*group, *number)));
         Counts {
             numbers: numbers.map(|row| (row, 0)).collect(),
             named: names.into_iter().map(|name| (name, 0)).collect(),

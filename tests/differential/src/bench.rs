@@ -5,7 +5,7 @@ use crate::families::{play, FIXED};
 use crate::maker::{Maker, MEMORY};
 use shared::random::Random;
 use shared::record::descriptor;
-use shared::registers::{BTT, CDMACR, CHAIN, CURDESC, DA, SA, TAILDESC};
+use shared::registers::{CDMACR, CHAIN, CURDESC, TAILDESC};
 
 /// The kinds of traces.
 pub const KINDS: [&str; 4] = ["mixed", "bus", "copies", "chains"];
@@ -36,11 +36,8 @@ pub fn make(kind: &str, count: usize) -> Vec<u8> {
 /// A sound copy of some hundred bytes.
 fn copy(maker: &mut Maker) {
     let count = maker.random.between(1, 512);
-    let source = maker.random.below(MEMORY - count);
-    let destination = maker.random.below(MEMORY - count);
-    maker.write(SA, source);
-    maker.write(DA, destination);
-    maker.write(BTT, count);
+    let (source, destination) = (maker.anywhere(count), maker.anywhere(count));
+    maker.start_copy(source, destination, count);
     maker.steps(20);
 }
 

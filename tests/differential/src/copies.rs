@@ -91,9 +91,7 @@ pub fn peek(maker: &mut Maker, address: u32) {
     }
     let fill = maker.random.u32();
     maker.memory(place, descriptor(0, u32::MAX, 0, 1, 0, fill));
-    maker.write(SA, address);
-    maker.write(DA, place + 0x10);
-    maker.write(BTT, 4);
+    maker.start_copy(address, place + 0x10, 4);
     maker.steps(1);
     maker.write(CDMACR, CHAIN);
     maker.write(CURDESC, place);
@@ -107,11 +105,8 @@ pub fn long_copy(maker: &mut Maker) {
     maker.long = true;
     ready(maker, false);
     let count = maker.random.between(5_000, 16_000);
-    let source = maker.random.below(MEMORY - count);
-    let destination = maker.random.below(MEMORY - count);
-    maker.write(SA, source);
-    maker.write(DA, destination);
-    maker.write(BTT, count);
+    let (source, destination) = (maker.anywhere(count), maker.anywhere(count));
+    maker.start_copy(source, destination, count);
     maker.steps(65_535);
     look(maker);
     peek(maker, destination + count - 4);

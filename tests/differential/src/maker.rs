@@ -8,6 +8,7 @@ use independent::record::{self, Bus};
 use independent::trace::{self, Replay};
 use shared::random::Random;
 use shared::record::encode;
+use shared::registers::{BTT, DA, SA};
 use shared::settings;
 use std::io::{sink, Sink};
 
@@ -94,6 +95,18 @@ impl Maker {
 
     pub fn read(&mut self, offset: u32) {
         self.put(Record::Read { offset: offset as u16 });
+    }
+
+    /// The three writes that start a simple transfer.
+    pub fn start_copy(&mut self, source: u32, destination: u32, count: u32) {
+        self.write(SA, source);
+        self.write(DA, destination);
+        self.write(BTT, count);
+    }
+
+    /// A start of `count` bytes anywhere in memory.
+    pub fn anywhere(&mut self, count: u32) -> u32 {
+        self.random.below(MEMORY - count)
     }
 
     pub fn steps(&mut self, steps: u16) {

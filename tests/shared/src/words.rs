@@ -152,19 +152,10 @@ pub fn clock(clock: &Clock) -> monitor::Clock {
 
 /// The other way round.
 fn of_clock(clock: &monitor::Clock) -> Clock {
-    let reset_high = u32::from(clock.reset_high);
-    Clock {
-        bits: reset_high | u32::from(clock.valid) << 1 | u32::from(clock.ready) << 2,
-        address: clock.address,
-        length: clock.length,
-        size: clock.size,
-        burst: clock.burst,
-        cache: clock.cache,
-        prot: clock.prot,
-        qos: clock.qos,
-        region: clock.region,
-        id: clock.id,
-    }
+    let monitor::Clock { address, length, size, burst, cache, prot, qos, region, id, .. } = *clock;
+    let (reset_high, valid) = (u32::from(clock.reset_high), u32::from(clock.valid));
+    let bits = reset_high | valid << 1 | u32::from(clock.ready) << 2;
+    Clock { bits, address, length, size, burst, cache, prot, qos, region, id }
 }
 
 /// The clock before, as a monitor's words hold it.

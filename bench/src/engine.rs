@@ -225,12 +225,12 @@ fn print_race(what: &str, job: &Job, how: How, lent: &mut Lent) {
     print_row(what, &race(steps, lent, work(Proved, how, job), work(Plain, how, job)));
 }
 
+/// The longest transfer in bursts of 64 and of 4,096 bytes, without windows and with sixteen.
 fn print_longest(how: How) {
-    for (width, beats) in [(4, 16), (128, 256)] {
+    for (bursts, width, beats) in [("64-byte", 4, 16), ("4,096-byte", 128, 256)] {
         let job = transfer(width, beats, HALF - 1);
-        for windows in [vec![], untouched_windows()] {
-            let what =
-                format!("8388607 bytes, width {width}, beats {beats}, {} windows", windows.len());
+        for (with, windows) in [("", vec![]), (", 16 windows", untouched_windows())] {
+            let what = format!("8 MiB, {bursts} bursts{with}");
             print_race(&what, &job, how, &mut Lent::new(&windows));
         }
     }
@@ -240,11 +240,10 @@ pub fn bench() {
     print_heading("engine, run", "nanoseconds a step");
     print_longest(How::Runs);
     let mut lent = Lent::new(&[]);
-    print_race("1024 bytes, width 4, beats 16", &transfer(4, 16, 1024), How::Runs, &mut lent);
-    print_race("65 bytes, width 4, beats 16", &transfer(4, 16, 65), How::Runs, &mut lent);
+    print_race("1,024 bytes, 64-byte bursts", &transfer(4, 16, 1024), How::Runs, &mut lent);
+    print_race("65 bytes, two steps", &transfer(4, 16, 65), How::Runs, &mut lent);
     put_chain(&mut lent.memory);
-    let what = format!("chain of {DESCRIPTORS}, width 4, beats 16");
-    print_race(&what, &chain(), How::Runs, &mut lent);
+    print_race("chain of 4,096 descriptors", &chain(), How::Runs, &mut lent);
     print_heading("engine, step", "nanoseconds a step");
     print_longest(How::Steps);
 }

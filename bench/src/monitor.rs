@@ -132,12 +132,12 @@ fn watch_plain(clocks: &mut Clocks) {
 }
 
 pub fn bench() {
-    print_heading("monitor", "nanoseconds a clock");
+    print_heading("bus clock", "nanoseconds a clock");
     for (name, spoiled) in [("all legal", false), ("some not legal", true)] {
         let mut clocks = clocks(spoiled);
         let flagged = compare(&clocks);
         assert_eq!(flagged > 0, spoiled, "clocks, {name}: a flag was up after {flagged} of them");
         let times = race(CLOCKS as u64, &mut clocks, watch_proved, watch_plain);
-        print_row(&format!("{CLOCKS} clocks, {name}"), &times);
+        print_row(&format!("100,000 clocks, {name}"), &times);
     }
 }

@@ -66,12 +66,10 @@ fn plan_all(planner: Planner, width: u32, beats: u32, transfers: &[Transfer], pl
 
 pub fn bench() {
     print_heading("plan", "nanoseconds a burst");
-    for (size, transfers) in
-        [("large, 8388607 bytes", large()), ("small, 1 to 4095 bytes", small())]
-    {
+    for (size, transfers) in [("large", large()), ("small", small())] {
         // A burst takes 8 bytes here and moves many more, so the longest transfer's length is room enough.
         let mut places = vec![0; transfers.iter().map(|t| t.count as usize).max().unwrap_or(0)];
-        for (width, beats) in [(4, 16), (128, 256)] {
+        for (most, width, beats) in [("64-byte", 4, 16), ("4,096-byte", 128, 256)] {
             let bursts = compare(width, beats, &transfers, &mut places);
             let work = |planner: Planner| {
                 let transfers = &transfers;
@@ -80,7 +78,7 @@ pub fn bench() {
                 }
             };
             let times = race(bursts, &mut places[..], work(proved), work(plain));
-            print_row(&format!("{size}, width {width}, beats {beats}"), &times);
+            print_row(&format!("{size}, {most} bursts"), &times);
         }
     }
 }

@@ -3,14 +3,14 @@
 use std::time::{Duration, Instant};
 
 /// Rounds that each side runs. The best one counts: whatever else runs only makes a round slower.
-const ROUNDS: u32 = 300;
+const ROUNDS: u32 = 1000;
 
 /// A race of long rounds ends after this long, but not before each side has run so many of them.
-const RACE: Duration = Duration::from_millis(400);
+const RACE: Duration = Duration::from_millis(600);
 const FEWEST_ROUNDS: u32 = 5;
 
 /// What a round should take at least, so reading the clock does not show, and a quiet round is likely.
-const ROUND: Duration = Duration::from_millis(1);
+const ROUND: Duration = Duration::from_micros(300);
 
 /// Nanoseconds for one unit of work.
 pub struct Times {
@@ -52,10 +52,10 @@ fn time<T: ?Sized>(calls: u32, shared: &mut T, work: &impl Fn(&mut T)) -> Durati
 
 /// Starts a table: what a row is about, and the unit of its times.
 pub fn print_heading(about: &str, unit: &str) {
-    println!("{:<52}{:>10}{:>12}{:>9}", format!("{about}: {unit}"), "proved", "Rust", "ratio");
+    println!("{:<40}{:>10}{:>12}{:>9}", format!("{about}: {unit}"), "proved", "Rust", "ratio");
 }
 
 pub fn print_row(what: &str, times: &Times) {
     let ratio = times.proved / times.plain;
-    println!("{what:<52}{:>10.2}{:>12.2}{ratio:>9.2}", times.proved, times.plain);
+    println!("{what:<40}{:>10.2}{:>12.2}{ratio:>9.2}", times.proved, times.plain);
 }

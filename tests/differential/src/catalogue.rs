@@ -20,7 +20,7 @@ fn write(offset: u16, value: u32) -> Record {
     Record::Write { offset, value }
 }
 
-/// The whole case of document 01, with its own numbers.
+/// The whole case of RULES.md, with its own numbers.
 fn whole_case() -> Vec<u8> {
     let mut bytes = Vec::new();
     for (sequence, record) in [

@@ -1,5 +1,5 @@
 // What each function of the header has to give, by the independent program. The words of no engine
-// have no engine there, and are refused here in document 01's order.
+// have no engine there, and are refused here in the rules' order.
 
 use independent::answer::{self, settings_listed};
 use independent::cut::plan_bytes;

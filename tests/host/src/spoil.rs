@@ -1,4 +1,4 @@
-// Engines with exactly one fault: what document 01 names as not well formed, and words that no
+// Engines with exactly one fault: what RULES.md names as not well formed, and words that no
 // engine has.
 
 use independent::cut::LONGEST as MOST_BYTES;

@@ -1,5 +1,5 @@
 // The numbered answers and the two lists of settings.
-// From document 01, "Numbered answers".
+// From RULES.md, "Numbered answers".
 
 pub const DONE: u32 = 0;
 /// Width or beats not on its list.

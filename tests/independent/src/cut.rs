@@ -1,5 +1,5 @@
 // The cutter: a transfer cut into legal bursts, each as long as is legal.
-// From document 01, "Cutting a transfer".
+// From RULES.md, "Cutting a transfer".
 
 use crate::answer;
 

@@ -1,5 +1,5 @@
 // The engine: its state, registers, descriptor steps and runs.
-// From document 01, "Numbered answers" (order, well formed), "Registers" and "Descriptor and steps".
+// From RULES.md, "Numbered answers" (order, well formed), "Registers" and "Descriptor and steps".
 
 use crate::answer;
 use crate::cut;
@@ -474,7 +474,7 @@ impl Engine {
                 SG_INT_ERR
             }
         };
-        // 01 leaves open whether a halting fetch keeps the next it read: held next stays here.
+        // The rules leave open whether a halting fetch keeps the next it read: held next stays here.
         self.halt(failed);
         Event::Halt { current, bit: failed }
     }

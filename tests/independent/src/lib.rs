@@ -1,5 +1,5 @@
-// The independent implementation of document 01, one module for each of its parts.
-// Written from 01-scope.md and READINGS.md alone.
+// The independent implementation of docs/RULES.md, a module for each of its parts. Written from the rules alone, without
+// a look at the proved code. It is what that code is compared with and timed beside, so it is plain and fast.
 pub mod answer;
 pub mod cut;
 pub mod engine;

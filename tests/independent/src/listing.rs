@@ -1,5 +1,5 @@
 // The lines of a listing, put together in one buffer that goes out when it is full.
-// From document 01, "Trace and listing". Reading: one blank between parts, decimal without
+// From RULES.md, "Trace and listing". Reading: one blank between parts, decimal without
 // padding, one LF.
 
 use crate::engine::Event;

@@ -1,5 +1,5 @@
 // Replays a trace from standard input, or from the file named by the first argument.
-// From document 01, "Trace and listing"; exit status 0 sound, 1 bad line, 2 unreadable file.
+// From RULES.md, "Trace and listing"; exit status 0 sound, 1 bad line, 2 unreadable file.
 
 use std::fs::File;
 use std::io;

@@ -1,5 +1,5 @@
 // How a group of bytes of memory answers, with its end and its sick windows.
-// From document 01, "Memory that answers badly".
+// From RULES.md, "Memory that answers badly".
 
 /// The longest memory allowed, in bytes (answer 2 beyond it).
 pub const LONGEST: usize = 16_777_216;

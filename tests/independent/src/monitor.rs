@@ -1,5 +1,5 @@
 // The monitor of the read addresses: flags 37 to 56 of the bus clocks.
-// From document 01, "Bus clocks".
+// From RULES.md, "Bus clocks".
 
 use crate::answer;
 

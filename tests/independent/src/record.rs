@@ -1,5 +1,5 @@
 // The records of a trace, and how to read them.
-// From document 01, "Trace and listing".
+// From RULES.md, "Trace and listing".
 
 use crate::monitor::Clock;
 

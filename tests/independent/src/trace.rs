@@ -1,5 +1,5 @@
 // The replay of a trace and its listing.
-// From document 01, "Trace and listing".
+// From RULES.md, "Trace and listing".
 
 use crate::answer;
 use crate::engine::{Engine, Event};

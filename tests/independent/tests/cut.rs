@@ -1,4 +1,4 @@
-// Tests of the cutter: document 01, "Cutting a transfer", P1 to P8, and answers 1, 7 and 8.
+// Tests of the cutter: RULES.md, "Cutting a transfer", P1 to P8, and answers 1, 7 and 8.
 // The plan against the brute plan, over all settings.
 
 use independent::answer;

@@ -1,4 +1,4 @@
-// Tests of the engine: document 01, "Registers" and "Descriptor and steps", S1 to S3, answers
+// Tests of the engine: RULES.md, "Registers" and "Descriptor and steps", S1 to S3, answers
 // 1, 2, 3, 4, 5, 6 and 9, and steps against a slow model that follows the text.
 
 mod common;

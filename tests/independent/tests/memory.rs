@@ -1,4 +1,4 @@
-// Tests of the memory's answers: document 01, "Memory that answers badly".
+// Tests of the memory's answers: RULES.md, "Memory that answers badly".
 // The interval judgement against one byte by byte.
 
 use independent::memory::{good_bytes, verdict, Verdict, Window};

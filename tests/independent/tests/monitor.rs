@@ -1,4 +1,4 @@
-// Tests of the monitor: document 01, "Bus clocks", M1 to M3, answers 1 and 13,
+// Tests of the monitor: RULES.md, "Bus clocks", M1 to M3, answers 1 and 13,
 // and each flag on and off.
 
 mod common;

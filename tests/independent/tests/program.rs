@@ -1,5 +1,5 @@
 // Tests of the program: standard input or a named file, and its exit statuses.
-// Listing as in document 01, "Trace and listing".
+// Listing as in RULES.md, "Trace and listing".
 
 mod common;
 

@@ -1,4 +1,4 @@
-// Tests of the replay: document 01, "Trace and listing", the whole case, each record kind and
+// Tests of the replay: RULES.md, "Trace and listing", the whole case, each record kind and
 // each refusal with its order, and any bytes at all.
 
 mod common;

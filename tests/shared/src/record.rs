@@ -1,5 +1,5 @@
 // The bytes of a record: the other way round from the reader of the independent program.
-// From document 01, "Trace and listing".
+// From RULES.md, "Trace and listing".
 
 use independent::record::{Bus, Record};
 

@@ -1,5 +1,5 @@
 // Helpers of the tests: a maker of traces, and clocks.
-// Records as in document 01, "Trace and listing".
+// Records as in RULES.md, "Trace and listing".
 #![allow(dead_code)]
 
 use independent::monitor::Clock;

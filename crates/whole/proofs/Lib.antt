@@ -1,3 +1,5 @@
+pub mod Bytes
 pub mod Listing
 pub mod Measure
 pub mod Parts
+pub mod Sound

@@ -1,0 +1,255 @@
+-- Every session of a replay is sound.
+use mathlib.Core.Path.{_≡_, refl, sym, ap, ap₂, subst, _∙_}
+use Prim.Native.Nat.{ℕ, zero, suc, _+_, _-_, _*_, _/_, _^_, _≤_, _<_, min}
+use mathlib.Core.Bool.{Bool, true, false}
+use mathlib.Core.List.{List, [], _++_}
+use native.Mathlib.Omega.{arith}
+use lib.ListN.{length, take, drop, set, length-set, length-append, length-replicate}
+use lib.Seq.{sets, length-sets, length-take-le, take-append-seam}
+use lib.Dec.{eqb, leb, ltb}
+use borrow.Author.Tests.{leb-false, le-ltb}
+use Rattle.kit.specs.Choice.{when, both}
+use Rattle.kit.specs.Limits.{mostMemory, mostWindows, addressEnd}
+use Rattle.kit.specs.Settings.{legalWidth, legalBeats, legalOf, legalSettings}
+use Rattle.kit.proofs.Choice.{yes, no, cases, never}
+use Rattle.memory.specs.Windows.{windowsOf}
+use Rattle.state.specs.declared.engine.Engine.{Engine}
+use Rattle.state.specs.State.{freshOf, wellFormedOf}
+use Rattle.state.proofs.WellFormed.{fresh-well-formed}
+use Rattle.registers.specs.Write as registers-written
+use Rattle.registers.proofs.Writes.{write-keeps-settings, write-keeps-words, write-keeps-well-formed}
+use Rattle.steps.specs.declared.event.Event.{Event}
+use Rattle.steps.specs.Step.{Next}
+use Rattle.steps.specs.Run.{AfterStep, stepOf, refusalOf}
+use Rattle.steps.proofs.Kept.{advance-settings, advance-simple, advance-length, advance-well-formed}
+use Rattle.monitor.specs.Monitor.{busClockOf}
+use Rattle.record.specs.declared.reading.Body.{Body}
+use Rattle.record.specs.declared.reading.Body.the-variants.{Settings, Memory, Window, Write, Read, Steps, Clock}
+use Rattle.record.specs.declared.reading.Reading.{Reading}
+use Rattle.record.specs.declared.reading.Reading.the-variants.{Found, Refused}
+use Rattle.record.specs.Reading.{readingOf}
+use Rattle.record.specs.Claims.{Bytes, Within}
+use Rattle.record.proofs.Claims.{claims}
+use Rattle.trace.specs.declared.session.Mode.{Mode}
+use Rattle.trace.specs.declared.session.Mode.the-variants as modes
+use Rattle.trace.specs.declared.session.Session.{Session}
+use Rattle.trace.specs.declared.session.Effect.{Effect}
+use Rattle.trace.specs.declared.pass.Passed.{Passed}
+use Rattle.trace.specs.Effect.{startOf, Effected, withSequence}
+use Rattle.trace.specs.Stepping.{usedOf, mostSteps, isNone, afterStep, steppingOf}
+use Rattle.trace.specs.Turn.{Applied, applyOf, Turn, recordBy, turnBy, turnOf}
+use Rattle.trace.specs.Pass.{readyOf, lineRoom, Replay, begin, turnOn, turnsOf, Passes}
+use Rattle.trace.proofs.Unique.{pass-unique}
+use Rattle.whole.specs.Listing.{startMemory, startWindows, Replays, begun, passed}
+use Rattle.whole.specs.Sound.{Sound, SoundIn, Sessions}
+use Rattle.whole.proofs.Bytes.{zero-bytes, take-bytes, drop-bytes, sets-bytes, advance-bytes}
+
+start : SoundIn startOf startMemory startWindows
+unfolding legalWidth legalBeats
+start = record {
+  legal = refl;
+  well = fresh-well-formed (record { width = 4; beats = 16 });
+  source = omega arith;
+  destination = omega arith;
+  few = omega arith;
+  small = omega (arith, length-replicate {A = ℕ} 32768 0);
+  bytes = zero-bytes 32768;
+  room = length-replicate {A = ℕ} (2 * mostWindows) 0;
+}
+
+-- ---- the windows that a step is lent
+
+few-used : (n : ℕ) → n ≤ mostWindows → usedOf n ≡ 2 * n
+few-used n h = let least : min n mostWindows ≡ n = omega arith in ap (λ (k : ℕ). 2 * k) least
+
+module _ {e : Engine} {used : ℕ} {m w : List ℕ} (h : Sound e used m w) where
+  lent-windows : length (take (usedOf used) w) / 2 ≡ used
+  lent-windows =
+      let long : length (take (usedOf used) w) ≡ 2 * used =
+      length-take-le (usedOf used) w (omega (arith, few-used used (h .few), h .room)) ∙ few-used used (h .few) in
+      let half : 2 * used / 2 ≡ used = omega arith in
+      ap (λ (k : ℕ). k / 2) long ∙ half
+
+  not-refused : refusalOf e (length m) (length (take (usedOf used) w) / 2) ≡ 0
+  unfolding refusalOf
+  not-refused =
+      sym (yes _ (h .legal) (no _ (le-ltb mostMemory (length m) (h .small)) (no _ (le-ltb mostWindows (length (take (usedOf used) w) / 2) (omega (arith, lent-windows, h .few))) (yes _ (h .well) refl))))
+
+  -- a step, refused or not, leaves a sound engine and a sound memory
+  record StepSound (x : Engine) (l : List ℕ) : Type 0 where
+    engine : Sound x used m w
+    long : length l ≡ length m
+    held : Bytes l
+
+  step-sound : (windows : List ℕ) → StepSound (stepOf e m windows .engine) (stepOf e m windows .memory)
+  unfolding stepOf
+  step-sound windows =
+      cases (λ (x : Next). StepSound (x .engine) (x .memory)) (eqb (refusalOf e (length m) (length windows / 2)) 0)
+      (λ _. record {
+        engine = record {
+          legal = ap legalOf (advance-settings e m (windowsOf windows)) ∙ h .legal;
+          well = advance-well-formed e m (windowsOf windows) (h .legal) (h .small) (h .bytes) (h .well);
+          source = omega (arith, ap {B = ℕ} (λ x. x .sa) (advance-simple e m (windowsOf windows)), h .source);
+          destination = omega (arith, ap {B = ℕ} (λ x. x .da) (advance-simple e m (windowsOf windows)), h .destination);
+          few = h .few;
+          small = h .small;
+          bytes = h .bytes;
+          room = h .room;
+        };
+        long = advance-length e m (windowsOf windows);
+        held = advance-bytes e m (windowsOf windows) (h .bytes);
+      })
+      (λ _. record { engine = h; long = refl; held = h .bytes })
+
+  -- another memory of the same length
+  remembered : {x : Engine} {l : List ℕ} → Sound x used m w → length l ≡ length m → Bytes l → Sound x used l w
+  remembered g long held = record {
+    legal = g .legal;
+    well = g .well;
+    source = g .source;
+    destination = g .destination;
+    few = g .few;
+    small = omega (arith, g .small);
+    bytes = held;
+    room = g .room;
+  }
+
+stepping-sound : (s : Session) (n taken : ℕ) (m w : List ℕ) → SoundIn s m w
+    → SoundIn (steppingOf s n taken m w .effect .session) (steppingOf s n taken m w .lent) w
+stepping-sound s n taken m w h =
+    cases P (eqb n 0) (λ _. h) (λ _. cases P (leb mostSteps taken) (λ _. h) (λ _. stepped))
+  where
+    P : Effected → Type 0
+    P e = SoundIn (e .effect .session) (e .lent) w
+
+    r : AfterStep
+    r = stepOf (s .engine) m (take (usedOf (s .windows)) w)
+
+    stepped : SoundIn (afterStep s n taken (r .event) (r .engine) .session) (r .memory) w
+    stepped =
+        let k = step-sound h (take (usedOf (s .windows)) w) in
+        cases (λ (x : Effect). SoundIn (x .session) (r .memory) w) (isNone (r .event)) (λ _. remembered h h (k .long) (k .held))
+        (λ _. remembered h (k .engine) (k .long) (k .held))
+
+-- ---- records
+
+module _ (s : Session) (position : ℕ) (input : List ℕ) (at : ℕ) (m w : List ℕ) (held : Bytes input) (h : SoundIn s m w) where
+  abbrev Stays : Applied → Type 0
+  Stays a = SoundIn (a .effect .session) (a .memory) (a .windows)
+
+  apply-sound : (n : ℕ) (b : Body) → Within b → Stays (applyOf s n position input at m w b)
+  unfolding applyOf
+  apply-sound n (Settings width beats) k =
+      cases (λ (e : Effect). SoundIn (e .session) m w) (legalSettings width beats)
+      (λ legal. record {
+        legal = legal;
+        well = fresh-well-formed (record { width = width; beats = beats });
+        source = omega arith;
+        destination = omega arith;
+        few = h .few;
+        small = h .small;
+        bytes = h .bytes;
+        room = h .room;
+      })
+      (λ _. h)
+  apply-sound n (Memory address count) k =
+      cases (λ (e : Effected). SoundIn (e .effect .session) (e .lent) w) (ltb (length m) (address + count)) (λ _. h)
+      (λ _. let bytes = take count (drop (at + 12) input) in
+      remembered h h (length-sets m address bytes) (sets-bytes m address bytes (h .bytes) (take-bytes count (drop (at + 12) input) (drop-bytes (at + 12) input held))))
+  apply-sound n (Window start count) k =
+      cases (λ (e : Effected). SoundIn (e .effect .session) m (e .lent)) (leb mostWindows (s .windows)) (λ _. h)
+      (λ more. record {
+        legal = h .legal;
+        well = h .well;
+        source = h .source;
+        destination = h .destination;
+        few = omega (arith, leb-false mostWindows (s .windows) more);
+        small = h .small;
+        bytes = h .bytes;
+        room = length-set (set w (2 * s .windows) start) (2 * s .windows + 1) count ∙ length-set w (2 * s .windows) start ∙ h .room;
+      })
+  apply-sound n (Write offset value) k =
+      let words = write-keeps-words (s .engine) offset value (k .1) (record { source-word = h .source; destination-word = h .destination }) in
+      record {
+        legal = ap legalOf (write-keeps-settings (s .engine) offset value) ∙ h .legal;
+        well = write-keeps-well-formed (s .engine) offset value (record { source-word = h .source; destination-word = h .destination }) (h .well);
+        source = words .source-word;
+        destination = words .destination-word;
+        few = h .few;
+        small = h .small;
+        bytes = h .bytes;
+        room = h .room;
+      }
+  apply-sound n (Read offset) k = h
+  apply-sound n (Steps count) k = stepping-sound (withSequence s n) count 0 m w h
+  apply-sound n (Clock bits clock) k =
+      cases (λ (e : Effect). SoundIn (e .session) m w) (ltb 7 bits) (λ _. h)
+      (λ _. cases (λ (e : Effect). SoundIn (e .session) m w) (eqb (busClockOf (s .monitor) (s .engine .settings .width) (s .engine .settings .beats) clock .number) 0) (λ _. h) (λ _. h))
+
+  record-sound : (v : Reading) → readingOf input at (eqb position 0) ≡ v
+      → SoundIn (recordBy s position input at m w v .session) (recordBy s position input at m w v .memory) (recordBy s position input at m w v .windows)
+  record-sound Refused e = h
+  record-sound (Found r next) e =
+      cases (λ (t : Turn). SoundIn (t .session) (t .memory) (t .windows)) (leb (r .sequence) (s .sequence)) (λ _. h)
+      (λ _. apply-sound (r .sequence) (r .body) (claims .ranges input at (eqb position 0) r next held e .1))
+
+abbrev SoundAt : Replay → Type 0
+SoundAt r = SoundIn (r .session) (r .memory) (r .windows)
+
+turn-sound : (base : ℕ) (input : List ℕ) → Bytes input → (r : Replay) → SoundAt r → SoundAt (turnOn base input r)
+unfolding turnOn turnOf
+turn-sound base input held r h = go (r .session .mode)
+  where
+    go : (mode : Mode) → (let t = turnBy (r .session) (base + r .at) input (r .at) (r .memory) (r .windows) mode in SoundIn (t .session) (t .memory) (t .windows))
+    go modes.Records = record-sound (r .session) (base + r .at) input (r .at) (r .memory) (r .windows) held h (readingOf input (r .at) (eqb (base + r .at) 0)) refl
+    go (modes.Steps n taken) = stepping-sound (r .session) n taken (r .memory) (r .windows) h
+    go modes.Over = record-sound (r .session) (base + r .at) input (r .at) (r .memory) (r .windows) held h (readingOf input (r .at) (eqb (base + r .at) 0)) refl
+
+turns-sound : (n base : ℕ) (input : List ℕ) → Bytes input → (r : Replay) → SoundAt r → SoundAt (turnsOf n base input r)
+unfolding turnsOf
+turns-sound zero base input held r h = h
+turns-sound (suc n) base input held r h = turn-sound base input held (turnsOf n base input r) (turns-sound n base input held r h)
+
+pass-sound : (s : Session) (base : ℕ) (input : List ℕ) (ended : Bool) (m w out : List ℕ) (r : Passed) (m′ w′ out′ : List ℕ)
+    → Passes s base input ended m w out r m′ w′ out′ → Bytes input → SoundIn s m w → SoundIn (r .session) m′ w′
+pass-sound s base input ended m w out r m′ w′ out′ p held h =
+    subst SoundAt (sym (p .ends)) (turns-sound (p .turns) base input held (begin s m w) h)
+
+part-bytes : (a b : List ℕ) → Bytes (a ++ b) → Bytes a
+part-bytes a b h = subst Bytes (take-append-seam a b) (take-bytes (length a) (a ++ b) h)
+
+replay-sound : {input : List ℕ} {place : ℕ} {s : Session} {m w text : List ℕ} → Bytes input → Replays input place s m w text → SoundIn s m w
+replay-sound held begun = start
+replay-sound {input} held (passed {place} {s} {m} {w} before part rest ended split last out r m′ w′ out′ p) =
+    pass-sound s place part ended m w out r m′ w′ out′ p (part-bytes part rest (subst Bytes split (drop-bytes place input held))) (replay-sound held before)
+
+-- a pass that takes no turn
+still : (s : Session) (base : ℕ) (input : List ℕ) (ended : Bool) (m w out : List ℕ) → s .mode ≡ modes.Over
+    → Passes s base input ended m w out (record { session = s; at = 0; put = 0 }) m w out
+unfolding turnsOf
+still s base input ended m w out e = record {
+  turns = 0;
+  text = [];
+  goes = λ k h. absurd (omega arith);
+  stops = ap (λ (mode : Mode). both (leb (0 + lineRoom) (length out)) (readyOf mode (length input - 0) ended)) e ∙ nor (leb (0 + lineRoom) (length out));
+  ends = refl;
+  put = refl;
+  fits = omega arith;
+  stored = refl;
+}
+  where
+    nor : (t : Bool) → both t false ≡ false
+    nor true = refl
+    nor false = refl
+
+pub sessions : Sessions
+sessions = record {
+  start = start;
+  turn = turn-sound;
+  pass = pass-sound;
+  replay = λ input place s m w text held q. replay-sound held q;
+  accepted = λ s m w h. not-refused h;
+  lent = λ s m w h. few-used (s .windows) (h .few);
+  over = λ s base input ended m w out r m′ w′ out′ p e.
+      pass-unique s base input ended m w out r (record { session = s; at = 0; put = 0 }) m′ w′ out′ m w out p (still s base input ended m w out e);
+}

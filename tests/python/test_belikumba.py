@@ -1,13 +1,13 @@
 """python/belikumba.py gives what docs/RULES.md says: its worked cases, each answer, and the same lines as host/copy.c."""
 
 import os
+import re
 import sys
 import unittest
 
 ROOT = os.path.join(os.path.dirname(os.path.abspath(__file__)), "..", "..")
 sys.path.insert(0, os.path.join(ROOT, "python"))
 
-import belikumba
 from belikumba import Answer, Clock, Control, Descriptor, Engine, Event, Monitor, Refused, Register, Status, Step, plan
 
 
@@ -17,6 +17,20 @@ class Cases(unittest.TestCase):
             call(*arguments, **named)
         self.assertIs(caught.exception.answer, answer)
         self.assertIn(f"answer {answer.value}: ", str(caught.exception))
+
+
+class Header(unittest.TestCase):
+    """The numbers of the module are those of include/belikumba.h."""
+
+    def test_numbers(self):
+        with open(os.path.join(ROOT, "include", "belikumba.h")) as file:
+            text = re.sub(r"/\*.*?\*/", "", file.read(), flags=re.S)
+        numbers = {name: eval(value) for name, value in re.findall(r"BELIKUMBA_(\w+) = ([^,}]+)", text)}
+        for kind, prefix in ((Answer, ""), (Register, ""), (Event, ""), (Control, "CDMACR_"), (Status, "CDMASR_")):
+            for name, member in kind.__members__.items():
+                self.assertEqual(numbers[prefix + name], member.value, prefix + name)
+        for kind, words in (("ENGINE", Engine().words), ("MONITOR", Monitor().words)):
+            self.assertEqual(int(re.search(rf"define BELIKUMBA_{kind}_WORDS (\d+)", text).group(1)), len(words))
 
 
 class Plans(Cases):

@@ -8,14 +8,14 @@ use Rattle.memory.specs.Verdict.{groupOf}
 use Rattle.state.specs.State.{wellFormedOf}
 use Rattle.registers.specs.Read.{registerOf}
 use Rattle.registers.specs.Write.{registerWrittenOf}
-use Rattle.steps.specs.Step.{takeOf, advanceOf}
+use Rattle.steps.specs.Step.{acceptOf, advanceOf}
 use Rattle.steps.specs.Run.{refusalOf, walkFrom, runOf}
 use Rattle.monitor.specs.Flags.{flagOf, raise, validTable, heldTable, validFlags, heldFlags}
 use Rattle.monitor.specs.Monitor.{flagsOf}
 use Rattle.cases.specs.Cases.{Cases}
 
 pub cases : Cases
-unfolding legalWidth legalBeats reach burstEnd cutWithin cut measureOf sick groupOf wellFormedOf registerOf registerWrittenOf takeOf advanceOf refusalOf walkFrom runOf flagOf raise validTable heldTable validFlags heldFlags flagsOf
+unfolding legalWidth legalBeats reach burstEnd cutWithin cut measureOf sick groupOf wellFormedOf registerOf registerWrittenOf acceptOf advanceOf refusalOf walkFrom runOf flagOf raise validTable heldTable validFlags heldFlags flagsOf
 cases = record {
   p1 = refl;
   p2 = refl;

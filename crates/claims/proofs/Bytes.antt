@@ -16,7 +16,8 @@ use Rattle.memory.specs.Burst.{copied}
 use Rattle.memory.proofs.Stores.{sets-before, sets-outside, sets-inside}
 use Rattle.state.specs.declared.engine.Engine.{Engine}
 use Rattle.state.specs.declared.engine.Transfer.{Transfer}
-use Rattle.claims.specs.Transfers.{Apart, Outside, statusPlace, Copied}
+use Rattle.steps.specs.Step.{statusPlace}
+use Rattle.claims.specs.Transfers.{Apart, Outside, Copied}
 
 module _ (s : Engine) (t : Transfer) where
   -- the first k bytes are copied from memory m₀ to the destination, and nothing else is changed

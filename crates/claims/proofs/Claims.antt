@@ -18,7 +18,7 @@ use Rattle.state.specs.declared.engine.Engine.{Engine}
 use Rattle.state.specs.declared.engine.Transfer.{Transfer}
 use Rattle.state.specs.State.{errorSetOf}
 use Rattle.claims.specs.Transfers.{Act, act, after, bursts, steps, Completes, Begin, Empty, Cover, Copied, Copy, Steps}
-use Rattle.claims.proofs.Course.{Goes, settle, course}
+use Rattle.claims.proofs.Progress.{Goes, settle, progress}
 use Rattle.claims.proofs.Starts.{Started, started, barren}
 
 module _ (s : Engine) (t : Transfer) (first : Act) (rest : List Act) (c : Completes s t first rest) where
@@ -26,7 +26,7 @@ module _ (s : Engine) (t : Transfer) (first : Act) (rest : List Act) (c : Comple
   begun = started s t first rest c
 
   whole : Goes s t 0 (act s first) rest
-  whole = let b = begun in course s t (c .legal) rest (act s first) 0 (b .some) (b .now) (c .runs) (c .good)
+  whole = let b = begun in progress s t (c .legal) rest (act s first) 0 (b .some) (b .now) (c .runs) (c .good)
 
   moved : bursts s (first ∷ rest) ≡ cut (s .settings .width) (s .settings .beats) (t .destination) (t .destination + t .total)
   moved =

@@ -1,7 +1,7 @@
 pub mod Bytes
 pub mod Calls
 pub mod Claims
-pub mod Course
+pub mod Progress
 pub mod Starts
 pub mod Worked
 pub mod Writes

@@ -5,69 +5,56 @@ use mathlib.Core.Bool.{Bool, true, false}
 use mathlib.Core.List.{List, _∷_, _++_}
 use Prim.Native.Nat.{ℕ, _+_, _%_, _^_, _<_}
 use native.Mathlib.Omega.{arith}
-use lib.ListN.{length}
 use lib.Dec.{eqb}
 use borrow.Author.Tests.{eqb-false}
 use Rattle.kit.specs.Choice.{when}
-use Rattle.kit.specs.Word.{wordAt}
 use Rattle.kit.proofs.Choice.{cases, never}
 use Rattle.memory.specs.declared.window.Window.{Window}
-use Rattle.memory.specs.declared.verdict.Verdict.{Verdict}
-use Rattle.memory.specs.declared.verdict.Verdict.the-variants.{Okay, Slave as SlaveError, Decode as DecodeError}
-use Rattle.memory.specs.Verdict.{groupOf}
 use Rattle.state.specs.declared.engine.Engine.{Engine}
 use Rattle.state.specs.declared.engine.Transfer.{Transfer}
 use Rattle.state.specs.declared.engine.Outcome.{Outcome}
 use Rattle.state.specs.declared.engine.Outcome.the-variants.{Internal}
 use Rattle.state.specs.declared.engine.Phase.{Phase}
 use Rattle.state.specs.declared.engine.Phase.the-variants.{Idle, Fetch, Move, Update}
+use Rattle.state.specs.declared.descriptor.Start.{Start as Begun}
+use Rattle.state.specs.Descriptor.{descriptorAt, startOf}
 use Rattle.state.specs.State.{phaseFits, wellFormedOf}
-use Rattle.state.specs.Bits.{bit}
 use Rattle.registers.specs.Write.{writeOf}
 use Rattle.state.proofs.WellFormed.{well-formed}
 use Rattle.steps.specs.declared.event.Event.{Event}
 use Rattle.steps.specs.declared.event.Event.the-variants.{Fetch as Fetched}
-use Rattle.steps.specs.declared.event.Advanced.{Advanced}
-use Rattle.steps.specs.Step.{Next, next, describedOf, takeOf, fetchBy, advanceBy, advanceOf}
+use Rattle.steps.specs.Step.{AfterAdvance, phaseAfterFetchOf, advanceOf}
+use Rattle.steps.proofs.Advances.{Advance, rests, halts, fetches, moves, faults, updates, advances}
 use Rattle.claims.specs.Transfers.{Act, step, write, read, act, burstsOf, bursts, steps, inTransfer, Own, left, Completes, Start, fetch, count}
-use Rattle.claims.proofs.Course.{movedTo, Now}
+use Rattle.claims.proofs.Progress.{movedTo, Now}
 use Rattle.claims.proofs.Writes.{Same, asked, Counts, Does, keeps, fresh, waits, starts, write-does}
 
 module _ (s : Engine) (out : inTransfer (s .phase) ≡ false) where
   -- ---- a step
 
-  -- what the descriptor in memory m says
+  -- where the descriptor in memory m leads
   abbrev described : List ℕ → Phase
-  described m = describedOf (wordAt m (s .pointers .current + 0x08)) (wordAt m (s .pointers .current + 0x10)) (wordAt m (s .pointers .current + 0x18) % 2 ^ 23)
+  described m = let d = descriptorAt m (s .pointers .current) in phaseAfterFetchOf (startOf (d .source) (d .destination) (d .count))
 
   -- the step to r fetched it
-  record Took (m : List ℕ) (r : Next) : Type 0 where
+  record Took (m : List ℕ) (r : AfterAdvance) : Type 0 where
     fetching : s .phase ≡ Fetch
     event : r .event ≡ Fetched (s .pointers .current)
     memory : r .memory ≡ m
     same : Same s (r .engine)
     phase : r .engine .phase ≡ described m
 
-  abbrev StepStarts : List ℕ → Next → Type 0
+  abbrev StepStarts : List ℕ → AfterAdvance → Type 0
   StepStarts m r = (inTransfer (r .engine .phase) ≡ false) ⊎ Took m r
 
-  taken : (m : List ℕ) → s .phase ≡ Fetch → (v : Verdict) → StepStarts m (next (fetchBy s m v) m)
-  unfolding takeOf
-  taken m e Okay =
-      cases (λ (r : Advanced). StepStarts m (next r m)) (bit 31 (wordAt m (s .pointers .current + 0x1C))) (λ _. inl refl)
-      (λ _. inr (record { fetching = e; event = refl; memory = refl; same = record { settings = refl; mode = refl; current = refl }; phase = refl }))
-  taken m e SlaveError = inl refl
-  taken m e DecodeError = inl refl
-
-  by-phase : (m : List ℕ) (windows : List Window) (p : Phase) → s .phase ≡ p → StepStarts m (advanceBy s m windows p)
-  by-phase m windows Idle e = inl out
-  by-phase m windows Fetch e = taken m e (groupOf (length m) windows (s .pointers .current) 32)
-  by-phase m windows (Move u) e = absurd (never (sym out ∙ ap inTransfer e))
-  by-phase m windows (Update o) e = absurd (never (sym out ∙ ap inTransfer e))
-
-  step-starts : (m : List ℕ) (windows : List Window) → StepStarts m (advanceOf s m windows)
-  unfolding advanceOf
-  step-starts m windows = by-phase m windows (s .phase) refl
+  step-starts : (m : List ℕ) (windows : List Window) → {r : AfterAdvance} → Advance s m windows r → StepStarts m r
+  step-starts m windows (rests e) = inl out
+  step-starts m windows (halts e b f) = inl refl
+  step-starts m windows (fetches e okay ready) =
+      inr (record { fetching = e; event = refl; memory = refl; same = record { settings = refl; mode = refl; current = refl }; phase = refl })
+  step-starts m windows (moves u e okay) = absurd (never (sym out ∙ ap inTransfer e))
+  step-starts m windows (faults u e o f b g) = absurd (never (sym out ∙ ap inTransfer e))
+  step-starts m windows (updates o e okay) = absurd (never (sym out ∙ ap inTransfer e))
 
   -- ---- a write
 
@@ -92,10 +79,10 @@ module _ (s : Engine) (t : Transfer) where
   inside e out = never (sym out ∙ ap inTransfer e)
 
   -- a description that leads to the move of t, by its count
-  says : (source destination total : ℕ) → describedOf source destination total ≡ Move t
+  says : (source destination total : ℕ) → phaseAfterFetchOf (startOf source destination total) ≡ Move t
       → (t ≡ record { source = source; destination = destination; total = total; moved = 0 }) × (0 < total)
   says source destination total =
-      cases (λ (p : Phase). p ≡ Move t → (t ≡ record { source = source; destination = destination; total = total; moved = 0 }) × (0 < total)) (eqb total 0)
+      cases (λ (x : Begun). phaseAfterFetchOf x ≡ Move t → (t ≡ record { source = source; destination = destination; total = total; moved = 0 }) × (0 < total)) (eqb total 0)
       (λ _ e. absurd (let z : _≡_ {A = ℕ} 0 1 = cc in omega arith))
       (λ z e. (cc, omega (arith, eqb-false total 0 z)))
 
@@ -117,9 +104,8 @@ module _ (s : Engine) (t : Transfer) where
       → advanceOf s m windows .engine .phase ≡ Move t → StepStarts s out m (advanceOf s m windows) → Started (step m windows)
   by-step lent windows well out e (inl o) = absurd (inside e o)
   by-step lent windows well out e (inr k) =
-      let c = s .pointers .current in
-      let total = wordAt lent (c + 0x18) % 2 ^ 23 in
-      let (d, some) = says (wordAt lent (c + 0x08)) (wordAt lent (c + 0x10)) total (sym (k .phase) ∙ e) in
+      let x = descriptorAt lent (s .pointers .current) in
+      let (d, some) = says (x .source) (x .destination) (x .count) (sym (k .phase) ∙ e) in
       let chain = chain-mode s well (k .fetching) in
       let x = advanceOf s lent windows .engine in
       record {
@@ -149,7 +135,7 @@ module _ (s : Engine) (t : Transfer) where
       }
 
   pub started : (first : Act) (rest : List Act) → Completes s t first rest → Started first
-  started (step m windows) rest c = by-step m windows (c .well) (c .before) (c .starts) (step-starts s (c .before) m windows)
+  started (step m windows) rest c = by-step m windows (c .well) (c .before) (c .starts) (step-starts s (c .before) m windows (advances s m windows))
   started (write offset v) rest c = by-write offset v (c .starts) (write-starts s (c .before) offset v)
   started (read offset) rest c = absurd (inside (c .starts) (c .before))
 
@@ -159,9 +145,9 @@ module _ (s : Engine) (o : Outcome) (well : wellFormedOf s ≡ true) (out : inTr
   outside : {p : Phase} → p ≡ Update o → inTransfer p ≡ false → ⊥
   outside e x = never (sym x ∙ ap inTransfer e)
 
-  zero-count : (source destination total : ℕ) → describedOf source destination total ≡ Update o → Internal ≡ o
+  zero-count : (source destination total : ℕ) → phaseAfterFetchOf (startOf source destination total) ≡ Update o → Internal ≡ o
   zero-count source destination total =
-      cases (λ (p : Phase). p ≡ Update o → Internal ≡ o) (eqb total 0) (λ _ e. cc) (λ _ e. absurd (let z : _≡_ {A = ℕ} 0 1 = cc in omega arith))
+      cases (λ (x : Begun). phaseAfterFetchOf x ≡ Update o → Internal ≡ o) (eqb total 0) (λ _ e. cc) (λ _ e. absurd (let z : _≡_ {A = ℕ} 0 1 = cc in omega arith))
 
   -- an update without a move is of a count of 0, in chain mode
   pub record Barren (first : Act) : Type 0 where
@@ -170,12 +156,12 @@ module _ (s : Engine) (o : Outcome) (well : wellFormedOf s ≡ true) (out : inTr
     pub now : (t : Transfer) → Now s t (Update o) (act s first)
 
   pub barren : (first : Act) → act s first .phase ≡ Update o → Barren first
-  barren (step m windows) e = go (step-starts s out m windows)
+  barren (step m windows) e = go (step-starts s out m windows (advances s m windows))
     where
       go : StepStarts s out m (advanceOf s m windows) → Barren (step m windows)
       go (inl x) = absurd (outside e x)
       go (inr k) = record {
-        internal = zero-count (wordAt m (s .pointers .current + 0x08)) (wordAt m (s .pointers .current + 0x10)) (wordAt m (s .pointers .current + 0x18) % 2 ^ 23) (sym (k .phase) ∙ e);
+        internal = let d = descriptorAt m (s .pointers .current) in zero-count (d .source) (d .destination) (d .count) (sym (k .phase) ∙ e);
         chain = chain-mode s well (k .fetching);
         now = λ t. record { phase = e; settings = k .same .settings; mode = k .same .mode; current = k .same .current };
       }

@@ -9,11 +9,11 @@ use Rattle.memory.specs.Windows.{sick}
 use Rattle.memory.specs.Verdict.{groupOf}
 use Rattle.state.specs.State.{wellFormedOf}
 use Rattle.registers.specs.Write.{registerWrittenOf}
-use Rattle.steps.specs.Step.{takeOf, advanceOf}
+use Rattle.steps.specs.Step.{acceptOf, advanceOf}
 use Rattle.claims.specs.Worked.{SimpleWorked, SimpleCleared, ChainWorked, ChainReplaced}
 
 pub simple-worked : SimpleWorked
-unfolding legalWidth legalBeats reach burstEnd sick groupOf wellFormedOf registerWrittenOf takeOf advanceOf
+unfolding legalWidth legalBeats reach burstEnd sick groupOf wellFormedOf registerWrittenOf acceptOf advanceOf
 simple-worked = record {
   completes = record {
     legal = refl;
@@ -33,7 +33,7 @@ unfolding legalWidth legalBeats reach burstEnd sick groupOf wellFormedOf registe
 simple-cleared = (refl, refl, refl)
 
 pub chain-worked : ChainWorked
-unfolding legalWidth legalBeats reach burstEnd sick groupOf wellFormedOf registerWrittenOf takeOf advanceOf
+unfolding legalWidth legalBeats reach burstEnd sick groupOf wellFormedOf registerWrittenOf acceptOf advanceOf
 chain-worked = record {
   completes = record {
     legal = refl;
@@ -49,5 +49,5 @@ chain-worked = record {
 }
 
 pub chain-replaced : ChainReplaced
-unfolding legalWidth legalBeats reach burstEnd sick groupOf wellFormedOf registerWrittenOf takeOf advanceOf
+unfolding legalWidth legalBeats reach burstEnd sick groupOf wellFormedOf registerWrittenOf acceptOf advanceOf
 chain-replaced = (refl, refl)

@@ -3,14 +3,15 @@ use mathlib.Core.Path.{_≡_}
 use Prim.Native.Nat.{ℕ, zero, suc, _^_, _≤_, _<_}
 use mathlib.Core.Bool.{true, false}
 use mathlib.Core.List.{List, [], _∷_}
-use lib.ListN.{length, getD}
+use lib.ListN.{length}
 use Rattle.kit.specs.Limits.{mostMemory, mostWindows, addressEnd}
 use Rattle.kit.specs.Settings.{legalOf}
 use Rattle.memory.specs.declared.window.Window.{Window}
 use Rattle.state.specs.declared.engine.Engine.{Engine}
 use Rattle.state.specs.State.{busyOf, wellFormedOf}
-use Rattle.steps.specs.Step.{advanceOf}
-use Rattle.steps.specs.Run.{Walk, begun, walkFrom, refusalOf}
+use Rattle.steps.specs.Step.{begun, advanceOf}
+use Rattle.steps.specs.Run.{AfterWalk, walkFrom, refusalOf}
+use Rattle.steps.specs.Claims.{Bytes}
 use Rattle.claims.specs.Transfers.{Act, step, write, read, act, after, steps, Own, left}
 
 -- ---- no step is refused
@@ -18,7 +19,7 @@ use Rattle.claims.specs.Transfers.{Act, step, write, read, act, after, s
 -- what any caller lends and writes: bytes, no more of them and of windows than document 01 allows, and 32-bit values
 abbrev pub Proper : List Act → Type 0
 Proper [] = Unit {0}
-Proper (step m windows ∷ more) = ((i : ℕ) → getD m i 0 < 256) × (length m ≤ mostMemory) × (length windows ≤ mostWindows) × Proper more
+Proper (step m windows ∷ more) = Bytes m × (length m ≤ mostMemory) × (length windows ≤ mostWindows) × Proper more
 Proper (write offset value ∷ more) = (value < 2 ^ 32) × Proper more
 Proper (read offset ∷ more) = Proper more
 
@@ -49,7 +50,7 @@ stepsOf (suc n) s m windows =
     elim (busyOf (s .phase)) [ true ↦ step m windows ∷ stepsOf n (advanceOf s m windows .engine) (advanceOf s m windows .memory) windows | false ↦ [] ]
 
 -- a run gives what its steps give, and only they touch the memory
-pub record Ran (s : Engine) (m : List ℕ) (run : Walk) (acts : List Act) : Type 0 where
+pub record Ran (s : Engine) (m : List ℕ) (run : AfterWalk) (acts : List Act) : Type 0 where
   pub own : Own m s acts
   pub engine : run .engine ≡ after s acts
   pub memory : run .memory ≡ left m s acts

@@ -3,7 +3,7 @@
 -- only steps and register accesses change its state.
 use mathlib.Core.Path.{_≡_}
 use mathlib.Core.Logic.{_⊎_}
-use Prim.Native.Nat.{ℕ, suc, _+_, _%_, _^_, _≤_, _<_}
+use Prim.Native.Nat.{ℕ, suc, _+_, _≤_, _<_}
 use mathlib.Core.Bool.{Bool, true, false}
 use mathlib.Core.List.{List, [], _∷_, _++_}
 use lib.ListN.{length, getD}
@@ -22,10 +22,11 @@ use Rattle.state.specs.declared.engine.Phase.{Phase}
 use Rattle.state.specs.declared.engine.Phase.the-variants.{Idle, Fetch, Move, Update}
 use Rattle.state.specs.State.{errorSetOf, wellFormedOf}
 use Rattle.state.specs.Bits.{bit}
+use Rattle.state.specs.Descriptor.{countOf, descriptorAt}
 use Rattle.registers.specs.Write.{writeOf}
 use Rattle.steps.specs.declared.event.Event.{Event}
 use Rattle.steps.specs.declared.event.Event.the-variants.{None, Fetch as Fetched, Move as Moved, Fault, Update as Updated, Halt}
-use Rattle.steps.specs.Step.{advanceOf}
+use Rattle.steps.specs.Step.{statusPlace, advanceOf}
 
 -- ---- what may happen in a transfer
 
@@ -108,14 +109,14 @@ pub data Start (s : Engine) (t : Transfer) : Act → Type 0 where
   fetch : (m : List ℕ) (windows : List Window) → s .phase ≡ Fetch → s .control .sgmode ≡ true
       → advanceOf s m windows .event ≡ Fetched (s .pointers .current)
       → t ≡ record {
-        source = wordAt m (s .pointers .current + 0x08);
-        destination = wordAt m (s .pointers .current + 0x10);
-        total = wordAt m (s .pointers .current + 0x18) % 2 ^ 23;
+        source = descriptorAt m (s .pointers .current) .source;
+        destination = descriptorAt m (s .pointers .current) .destination;
+        total = descriptorAt m (s .pointers .current) .count;
         moved = 0;
       }
       → Start s t (step m windows)
   count : (value : ℕ) → s .phase ≡ Idle → s .control .sgmode ≡ false
-      → t ≡ record { source = s .simple .sa; destination = s .simple .da; total = value % 2 ^ 23; moved = 0 }
+      → t ≡ record { source = s .simple .sa; destination = s .simple .da; total = countOf value; moved = 0 }
       → Start s t (write 0x28 value)
 
 abbrev pub Begin : Type 0
@@ -150,10 +151,6 @@ Apart a n b k = (a + n ≤ b) ⊎ (b + k ≤ a)
 -- the byte at x lies outside the n bytes from a on
 abbrev pub Outside : ℕ → ℕ → ℕ → Type 0
 Outside x a n = (x < a) ⊎ (a + n ≤ x)
-
--- where the status word of the current descriptor stands
-abbrev pub statusPlace : Engine → ℕ
-statusPlace s = s .pointers .current + 0x1C
 
 -- only these steps touch the memory: the first is lent m, each other one what the one before left
 abbrev pub Own : List ℕ → Engine → List Act → Type 0

@@ -14,10 +14,10 @@ use Rattle.kit.proofs.Choice.{yes, no, either-right}
 use Rattle.memory.specs.declared.window.Window.{Window}
 use Rattle.memory.specs.declared.verdict.Verdict.the-variants.{Okay, Slave, Decode}
 use Rattle.memory.specs.Windows.{sick, inside}
-use Rattle.memory.specs.Verdict.{worse, byteOf, groupOf}
+use Rattle.memory.specs.Verdict.{worse, byteOf, groupOf, pairOf}
 use Rattle.memory.specs.Interval.{touchesOf}
 use Rattle.memory.proofs.Touch.{touches-one, touches-more}
-use Rattle.memory.proofs.Verdicts.{verdictBy, worse-by, worse-right-okay, okay-no-decode}
+use Rattle.memory.proofs.Verdicts.{verdictBy, worse-by, worse-right-okay, worse-okay, okay-no-decode}
 
 -- one of the windows touches the bytes from a up to e
 abbrev pub hit : List Window → ℕ → ℕ → Bool
@@ -96,17 +96,17 @@ module _ (size : ℕ) (ws : List Window) (a n : ℕ) where
       ltb-false size (a + n) (okay-no-decode (ltb size (a + n)) (hit ws a (a + n)) (sym (group-ends h) ∙ e))
 
 module _ (size : ℕ) (ws : List Window) (a b n : ℕ) where
-  pub pair-none : n ≡ 0 → Okay ≡ worse (groupOf size ws a n) (groupOf size ws b n)
+  pub pair-none : n ≡ 0 → Okay ≡ pairOf size ws a b n
   pair-none e = ap₂ worse (group-none size ws a n e) (group-none size ws b n e)
 
   pub pair-ends : 0 < n
-      → worse (groupOf size ws a n) (groupOf size ws b n)
+      → pairOf size ws a b n
       ≡ verdictBy (either (ltb size (a + n)) (ltb size (b + n))) (either (hit ws a (a + n)) (hit ws b (b + n)))
   pair-ends h =
       ap₂ worse (group-ends size ws a n h) (group-ends size ws b n h)
       ∙ worse-by (ltb size (a + n)) (hit ws a (a + n)) (ltb size (b + n)) (hit ws b (b + n))
 
-  pub pair-decode : 0 < n → (size < a + n) ⊎ (size < b + n) → Decode ≡ worse (groupOf size ws a n) (groupOf size ws b n)
+  pub pair-decode : 0 < n → (size < a + n) ⊎ (size < b + n) → Decode ≡ pairOf size ws a b n
   pair-decode h past = yes _ (one past) refl ∙ sym (pair-ends h)
     where
       one : (size < a + n) ⊎ (size < b + n) → either (ltb size (a + n)) (ltb size (b + n)) ≡ true
@@ -117,7 +117,7 @@ module _ (size : ℕ) (ws : List Window) (a b n : ℕ) where
   fit f g = sym (no _ (le-ltb _ _ f) (sym (le-ltb _ _ g)))
 
   pub pair-slave : 0 < n → a + n ≤ size → b + n ≤ size → (hit ws a (a + n) ≡ true) ⊎ (hit ws b (b + n) ≡ true)
-      → Slave ≡ worse (groupOf size ws a n) (groupOf size ws b n)
+      → Slave ≡ pairOf size ws a b n
   pair-slave h f g t = no _ (fit f g) (yes _ (one t) refl) ∙ sym (pair-ends h)
     where
       one : (hit ws a (a + n) ≡ true) ⊎ (hit ws b (b + n) ≡ true) → either (hit ws a (a + n)) (hit ws b (b + n)) ≡ true
@@ -125,5 +125,11 @@ module _ (size : ℕ) (ws : List Window) (a b n : ℕ) where
       one (inr e) = sym (either-right (hit ws a (a + n)) (sym e))
 
   pub pair-okay : 0 < n → a + n ≤ size → b + n ≤ size → hit ws a (a + n) ≡ false → hit ws b (b + n) ≡ false
-      → Okay ≡ worse (groupOf size ws a n) (groupOf size ws b n)
+      → Okay ≡ pairOf size ws a b n
   pair-okay h f g s t = no _ (fit f g) (no _ (sym (no _ s (sym t))) refl) ∙ sym (pair-ends h)
+
+  -- an OKAY of both says that both fit
+  pub pair-okay-fits : pairOf size ws a b n ≡ Okay → 0 < n → (a + n ≤ size) × (b + n ≤ size)
+  pair-okay-fits e h =
+      let both = worse-okay (groupOf size ws a n) (groupOf size ws b n) e in
+      (group-okay-fits size ws a n (both .0) h, group-okay-fits size ws b n (both .1) h)

@@ -24,3 +24,7 @@ worse Okay v = v
 unfoldable pub groupOf : ℕ → List Window → ℕ → ℕ → Verdict
 groupOf size windows a zero = Okay
 groupOf size windows a (suc n) = worse (byteOf size windows a) (groupOf size windows (suc a) n)
+
+-- two groups of n bytes, from a and from b on, judged together
+abbrev pub pairOf : ℕ → List Window → ℕ → ℕ → ℕ → Verdict
+pairOf size windows a b n = worse (groupOf size windows a n) (groupOf size windows b n)

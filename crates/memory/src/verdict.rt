@@ -4,7 +4,7 @@ use crate::window::Window;
 use crate::window::touches;
 ghost use mathlib.Core.Path.{_≡_};
 ghost use Rattle.memory.specs.Windows.{windowsOf};
-ghost use Rattle.memory.specs.Verdict.{groupOf, worse};
+ghost use Rattle.memory.specs.Verdict.{groupOf, pairOf};
 
 pub enum Verdict {
     Okay,
@@ -43,8 +43,7 @@ pub fn judge(size: usize, windows: &[u32], start: u64, bytes: u64) -> Verdict
 
 // The worse verdict of two groups of `bytes` bytes, from `first` and from `second` on: a move's source and destination.
 pub fn judge_pair(size: usize, windows: &[u32], first: u64, second: u64, bytes: u64) -> Verdict
-    ensures { λ r. ⌜ r ≡ worse (groupOf size (windowsOf (now (windows .entry))) first bytes)
-        (groupOf size (windowsOf (now (windows .entry))) second bytes) ⌝ }
+    ensures { λ r. ⌜ r ≡ pairOf size (windowsOf (now (windows .entry))) first second bytes ⌝ }
 {
     if bytes == 0 {
         return Verdict::Okay;

@@ -1,4 +1,7 @@
+pub mod Acceptable
+pub mod Advances
 pub mod Bursts
 pub mod Entries
-pub mod Kept
+pub mod Keeps
+pub mod Stored
 pub mod Walks

@@ -1,2 +1,4 @@
 pub mod Step
 pub mod Run
+pub mod Report
+pub mod Claims

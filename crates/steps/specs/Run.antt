@@ -13,11 +13,10 @@ use Rattle.memory.specs.Windows.{windowsOf}
 use Rattle.state.specs.declared.engine.Engine.{Engine}
 use Rattle.state.specs.State.{busyOf, wellFormedOf}
 use Rattle.steps.specs.declared.event.Event.{Event}
-use Rattle.steps.specs.declared.event.Event.the-variants.{None}
 use Rattle.steps.specs.declared.run.Stepped.{Stepped}
 use Rattle.steps.specs.declared.run.Ran.{Ran}
 use Rattle.steps.specs.declared.run.Walked.{Walked}
-use Rattle.steps.specs.Step.{Next, advanceOf}
+use Rattle.steps.specs.Step.{AfterAdvance, begun, advanceOf}
 
 -- step and run: 1, 2, 6, 9, the first that fits, by the memory's bytes and the number of windows
 unfoldable pub refusalOf : Engine → ℕ → ℕ → ℕ
@@ -27,27 +26,23 @@ refusalOf s size windows =
     1
 
 -- what some steps leave: the last event, their number, the state and the memory
-pub record Walk : Type 0 where
+pub record AfterWalk : Type 0 where
   pub event : Event
   pub steps : ℕ
   pub engine : Engine
   pub memory : List ℕ
 
--- no step taken yet
-abbrev pub begun : Engine → List ℕ → Next
-begun s m = record { event = None; engine = s; memory = m }
-
-abbrev pub ended : ℕ → Next → Walk
-ended i r = record { event = r .event; steps = i; engine = r .engine; memory = r .memory }
+abbrev pub afterSteps : ℕ → AfterAdvance → AfterWalk
+afterSteps i r = record { event = r .event; steps = i; engine = r .engine; memory = r .memory }
 
 -- steps until idle or n more are taken, i taken before
-unfoldable pub walkFrom : ℕ → ℕ → Next → List Window → Walk
-walkFrom zero i r windows = ended i r
+unfoldable pub walkFrom : ℕ → ℕ → AfterAdvance → List Window → AfterWalk
+walkFrom zero i r windows = afterSteps i r
 walkFrom (suc n) i r windows =
-    elim (busyOf (r .engine .phase)) [ true ↦ walkFrom n (suc i) (advanceOf (r .engine) (r .memory) windows) windows | false ↦ ended i r ]
+    elim (busyOf (r .engine .phase)) [ true ↦ walkFrom n (suc i) (advanceOf (r .engine) (r .memory) windows) windows | false ↦ afterSteps i r ]
 
-abbrev pub walked : Walked → List ℕ → Walk
-walked r m = record { event = r .event; steps = r .steps; engine = r .engine; memory = m }
+abbrev pub walkSeen : Walked → List ℕ → AfterWalk
+walkSeen r m = record { event = r .event; steps = r .steps; engine = r .engine; memory = m }
 
 -- a step: its answer's number, event, state and memory; a refusal leaves state and memory as they were, and no event
 pub record AfterStep : Type 0 where
@@ -56,7 +51,7 @@ pub record AfterStep : Type 0 where
   pub engine : Engine
   pub memory : List ℕ
 
-abbrev pub stepAnswer : ℕ → Next → AfterStep
+abbrev pub stepAnswer : ℕ → AfterAdvance → AfterStep
 stepAnswer n r = record { answer = n; event = r .event; engine = r .engine; memory = r .memory }
 
 unfoldable pub stepOf : Engine → List ℕ → List ℕ → AfterStep
@@ -74,13 +69,13 @@ pub record AfterRun : Type 0 where
   pub engine : Engine
   pub memory : List ℕ
 
-abbrev pub runAnswer : ℕ → Walk → AfterRun
+abbrev pub runAnswer : ℕ → AfterWalk → AfterRun
 runAnswer n w = record { answer = n; steps = w .steps; engine = w .engine; memory = w .memory }
 
 unfoldable pub runOf : ℕ → Engine → List ℕ → List ℕ → AfterRun
 runOf most s m windows =
     let n = refusalOf s (length m) (length windows / 2) in
-    runAnswer n (when (eqb n 0) (walkFrom most 0 (begun s m) (windowsOf windows)) (ended 0 (begun s m)))
+    runAnswer n (when (eqb n 0) (walkFrom most 0 (begun s m) (windowsOf windows)) (afterSteps 0 (begun s m)))
 
 abbrev pub runSeen : Ran → List ℕ → AfterRun
 runSeen r m = record { answer = numberOf (r .answer); steps = r .steps; engine = r .engine; memory = m }

@@ -1,19 +1,18 @@
 -- Document 01, "Descriptor and steps": one step does one of these: idle, fetch, move, update.
-use Prim.Native.Nat.{ℕ, _+_, _-_, _%_, _^_, _≤_, _<_}
+use Prim.Native.Nat.{ℕ, _+_, _-_, _^_}
 use mathlib.Core.Bool.{true}
 use mathlib.Core.List.{List}
 use lib.ListN.{length}
 use lib.Seq.{sets}
 use lib.Dec.{eqb}
 use Rattle.kit.specs.Choice.{when}
-use Rattle.kit.specs.Limits.{mostBytes, addressEnd}
-use Rattle.kit.specs.Word.{wordAt, bytesOf}
-use Rattle.cut.specs.Cut.{burstEnd, burst}
+use Rattle.kit.specs.Word.{bytesOf}
+use Rattle.cut.specs.Cut.{burstBytes}
 use Rattle.memory.specs.declared.window.Window.{Window}
 use Rattle.memory.specs.declared.verdict.Verdict.{Verdict}
 use Rattle.memory.specs.declared.verdict.Verdict.the-variants.{Okay, Slave as SlaveError, Decode as DecodeError}
-use Rattle.memory.specs.Verdict.{groupOf, worse}
-use Rattle.memory.specs.Burst.{longestBurst, copied}
+use Rattle.memory.specs.Verdict.{groupOf, pairOf}
+use Rattle.memory.specs.Burst.{copied}
 use Rattle.state.specs.declared.engine.Engine.{Engine}
 use Rattle.state.specs.declared.engine.Transfer.{Transfer}
 use Rattle.state.specs.declared.engine.ErrorBit.{ErrorBit}
@@ -22,107 +21,113 @@ use Rattle.state.specs.declared.engine.Outcome.{Outcome}
 use Rattle.state.specs.declared.engine.Outcome.the-variants.{Complete, Internal, Slave, Decode}
 use Rattle.state.specs.declared.engine.Phase.{Phase}
 use Rattle.state.specs.declared.engine.Phase.the-variants.{Idle, Fetch, Move, Update}
-use Rattle.state.specs.State.{withStatus, withPointers, withPhase}
+use Rattle.state.specs.declared.descriptor.Descriptor.{Descriptor}
+use Rattle.state.specs.declared.descriptor.Start.{Start}
+use Rattle.state.specs.declared.descriptor.Start.the-variants.{Moves, Internal as InternalError}
 use Rattle.state.specs.Bits.{errorBitOf}
-use Rattle.state.specs.Bits.{bit, pointer}
+use Rattle.state.specs.Descriptor.{descriptorBytes, statusAt, descriptorAt, startOf}
+use Rattle.state.specs.State.{withPhase, withFault, withIoc, withErr, withCurrent, withNext, withHeldnext}
 use Rattle.steps.specs.declared.event.Event.{Event}
 use Rattle.steps.specs.declared.event.Event.the-variants.{None, Fetch as Fetched, Move as Moved, Fault, Update as Updated, Halt}
 use Rattle.steps.specs.declared.event.Advanced.{Advanced}
 
 -- what a step leaves: its event, the state and the memory
-pub record Next : Type 0 where
+pub record AfterAdvance : Type 0 where
   pub event : Event
   pub engine : Engine
   pub memory : List ℕ
 
-abbrev pub next : Advanced → List ℕ → Next
-next r m = record { event = r .event; engine = r .engine; memory = m }
+abbrev pub advanceSeen : Advanced → List ℕ → AfterAdvance
+advanceSeen r m = record { event = r .event; engine = r .engine; memory = m }
+
+-- no step taken yet
+abbrev pub begun : Engine → List ℕ → AfterAdvance
+begun s m = record { event = None; engine = s; memory = m }
 
 -- halt: Idle and Err_Irq set, current kept
-abbrev pub haltedOf : Engine → ErrorBit → Engine
-haltedOf s b = withPhase (withStatus s (record { fault = b; ioc = s .status .ioc; err = true })) Idle
+abbrev pub stopOnErrorOf : Engine → ErrorBit → Engine
+stopOnErrorOf s b = withPhase (withErr (withFault s b) true) Idle
 
 -- a fetch or update that ends without going on or writing
 abbrev pub haltOf : Engine → ErrorBit → Advanced
-haltOf s b = record { event = Halt (s .pointers .current) (errorBitOf b); engine = haltedOf s b }
+haltOf s b = record { event = Halt (s .pointers .current) (errorBitOf b); engine = stopOnErrorOf s b }
+
+-- ---- fetch
 
 -- BTT 0 goes to update with DMAIntErr, and any other count to move
-abbrev pub describedOf : ℕ → ℕ → ℕ → Phase
-describedOf source destination total =
-    when (eqb total 0) (Update Internal) (Move (record { source = source; destination = destination; total = total; moved = 0 }))
+abbrev pub phaseAfterFetchOf : Start → Phase
+phaseAfterFetchOf (Moves t) = Move t
+phaseAfterFetchOf InternalError = Update Internal
 
--- a descriptor by its words; status bit 31 already set: SGIntErr
-unfoldable pub takeOf : Engine → ℕ → ℕ → ℕ → ℕ → ℕ → Advanced
-takeOf s next source destination control status =
-    when (bit 31 status) (haltOf s SgIntErr)
+-- a descriptor that memory gave; status bit 31 already set: SGIntErr
+unfoldable pub acceptOf : Engine → Descriptor → Advanced
+acceptOf s d =
+    when (d .stale) (haltOf s SgIntErr)
     (record {
       event = Fetched (s .pointers .current);
-      engine = withPhase
-          (withPointers s (record { current = s .pointers .current; tail = s .pointers .tail; next = s .pointers .next; heldnext = pointer next }))
-          (describedOf source destination (control % 2 ^ 23));
+      engine = withPhase (withHeldnext s (d .next)) (phaseAfterFetchOf (startOf (d .source) (d .destination) (d .count)));
     })
 
--- the descriptor at `at`: 00 next, 08 source, 10 destination, 18 control (BTT in bits 22..0), 1C status
-abbrev pub takenOf : Engine → List ℕ → ℕ → Advanced
-takenOf s m at = takeOf s (wordAt m at) (wordAt m (at + 0x08)) (wordAt m (at + 0x10)) (wordAt m (at + 0x18)) (wordAt m (at + 0x1C))
-
--- fetch: decode error SGDecErr, slave error SGSlvErr
+-- fetch of the 32 bytes: decode error SGDecErr, slave error SGSlvErr
 abbrev pub fetchBy : Engine → List ℕ → Verdict → Advanced
-fetchBy s m Okay = takenOf s m (s .pointers .current)
+fetchBy s m Okay = acceptOf s (descriptorAt m (s .pointers .current))
 fetchBy s m SlaveError = haltOf s SgSlvErr
 fetchBy s m DecodeError = haltOf s SgDecErr
 
 abbrev pub fetchOf : Engine → List ℕ → List Window → Advanced
-fetchOf s m windows = fetchBy s m (groupOf (length m) windows (s .pointers .current) 32)
+fetchOf s m windows = fetchBy s m (groupOf (length m) windows (s .pointers .current) descriptorBytes)
+
+-- ---- move
+
+-- where the next burst of a transfer is read and written
+abbrev pub readsAt : Transfer → ℕ
+readsAt t = t .source + t .moved
+
+abbrev pub writesAt : Transfer → ℕ
+writesAt t = t .destination + t .moved
+
+-- the bytes of the first burst of the cut of what remains
+abbrev pub nextBytes : Engine → Transfer → ℕ
+nextBytes s t = burstBytes (s .settings .width) (s .settings .beats) (writesAt t) (t .total - t .moved)
 
 -- after the last burst: chain mode goes to update, simple mode ends in that same step and sets IOC_Irq
-abbrev pub endedOf : Engine → Engine
-endedOf s =
-    when (s .control .sgmode) (withPhase s (Update Complete))
-    (withPhase (withStatus s (record { fault = s .status .fault; ioc = true; err = s .status .err })) Idle)
+abbrev pub finishTransferOf : Engine → Engine
+finishTransferOf s = when (s .control .sgmode) (withPhase s (Update Complete)) (withPhase (withIoc s true) Idle)
 
 -- the state after `moved` bytes of the transfer
-abbrev pub movedOnOf : Engine → Transfer → ℕ → Engine
-movedOnOf s t moved =
-    when (eqb moved (t .total)) (endedOf s)
+abbrev pub continueOrFinishOf : Engine → Transfer → ℕ → Engine
+continueOrFinishOf s t moved =
+    when (eqb moved (t .total)) (finishTransferOf s)
     (withPhase s (Move (record { source = t .source; destination = t .destination; total = t .total; moved = moved })))
 
 -- a move that writes
-abbrev pub movedOf : Engine → Transfer → ℕ → ℕ → Advanced
-movedOf s t start bytes = record { event = Moved (record { start = start; bytes = bytes }); engine = movedOnOf s t (t .moved + bytes) }
-
--- a move that fails: chain mode goes to update, simple mode sets its CDMASR bit and halts
-abbrev pub faultedOf : Engine → ℕ → Outcome → ErrorBit → Advanced
-faultedOf s destination outcome b = record {
-  event = Fault destination (errorBitOf b);
-  engine = when (s .control .sgmode) (withPhase s (Update outcome)) (haltedOf s b);
+abbrev pub afterBurstOf : Engine → Transfer → ℕ → ℕ → Advanced
+afterBurstOf s t start bytes = record {
+  event = Moved (record { start = start; bytes = bytes });
+  engine = continueOrFinishOf s t (t .moved + bytes);
 }
 
--- the end of the first burst of the cut of what remains, from destination + moved
-abbrev pub stopOf : Engine → Transfer → ℕ
-stopOf s t = burstEnd (s .settings .width) (s .settings .beats) (t .destination + t .moved) (t .destination + t .total)
+-- a move that fails: chain mode goes to update, simple mode sets its CDMASR bit and halts
+abbrev pub afterFaultOf : Engine → ℕ → Outcome → ErrorBit → Advanced
+afterFaultOf s destination outcome b = record {
+  event = Fault destination (errorBitOf b);
+  engine = when (s .control .sgmode) (withPhase s (Update outcome)) (stopOnErrorOf s b);
+}
 
 -- move, by what the burst's source and destination bytes answer together: all source bytes are read before any is written
-abbrev pub moveBy : Engine → Transfer → List ℕ → ℕ → ℕ → ℕ → Verdict → Next
-moveBy s t m from at bytes Okay = next (movedOf s t at bytes) (copied m from at bytes)
-moveBy s t m from at bytes SlaveError = next (faultedOf s at Slave DmaSlvErr) m
-moveBy s t m from at bytes DecodeError = next (faultedOf s at Decode DmaDecErr) m
+abbrev pub moveBurstBy : Engine → Transfer → List ℕ → ℕ → Verdict → AfterAdvance
+moveBurstBy s t m bytes Okay = advanceSeen (afterBurstOf s t (writesAt t) bytes) (copied m (readsAt t) (writesAt t) bytes)
+moveBurstBy s t m bytes SlaveError = advanceSeen (afterFaultOf s (writesAt t) Slave DmaSlvErr) m
+moveBurstBy s t m bytes DecodeError = advanceSeen (afterFaultOf s (writesAt t) Decode DmaDecErr) m
 
--- the move of `bytes` bytes to `at`
-abbrev pub carryOf : Engine → Transfer → List ℕ → List Window → ℕ → ℕ → ℕ → Next
-carryOf s t m windows from at bytes =
-    moveBy s t m from at bytes (worse (groupOf (length m) windows from bytes) (groupOf (length m) windows at bytes))
+abbrev pub moveBurstOf : Engine → Transfer → List ℕ → List Window → AfterAdvance
+moveBurstOf s t m windows = moveBurstBy s t m (nextBytes s t) (pairOf (length m) windows (readsAt t) (writesAt t) (nextBytes s t))
 
-abbrev pub moveOf : Engine → Transfer → List ℕ → List Window → Next
-moveOf s t m windows = carryOf s t m windows (t .source + t .moved) (t .destination + t .moved) (stopOf s t - (t .destination + t .moved))
+-- ---- update
 
--- what a burst of a transfer in its midst keeps to
-pub record Carriable (t : Transfer) (from at bytes : ℕ) : Type 0 where
-  pub source : from < addressEnd
-  pub destination : at < addressEnd
-  pub some : 0 < bytes
-  pub page : bytes ≤ longestBurst
-  pub total : t .moved + bytes ≤ mostBytes
+-- where the status word of the current descriptor lies
+abbrev pub statusPlace : Engine → ℕ
+statusPlace s = s .pointers .current + statusAt
 
 -- the status word: complete, or for an error only bit 30 (decode), 29 (slave) or 28 (internal)
 abbrev pub statusWordOf : Outcome → ℕ
@@ -132,39 +137,40 @@ statusWordOf Slave = 2 ^ 29
 statusWordOf Decode = 2 ^ 30
 
 -- a good update sets IOC_Irq and next = held next; if current equals tail, idle, else current = next and fetch
-abbrev pub completedOf : Engine → Engine
-completedOf s =
-    let marked = withStatus s (record { fault = s .status .fault; ioc = true; err = s .status .err }) in
+abbrev pub completeDescriptorOf : Engine → Engine
+completeDescriptorOf s =
+    let held = s .pointers .heldnext in
     when (eqb (s .pointers .current) (s .pointers .tail))
-    (withPhase (withPointers marked (record { current = s .pointers .current; tail = s .pointers .tail; next = s .pointers .heldnext; heldnext = s .pointers .heldnext })) Idle)
-    (withPhase (withPointers marked (record { current = s .pointers .heldnext; tail = s .pointers .tail; next = s .pointers .heldnext; heldnext = s .pointers .heldnext })) Fetch)
+    (withPhase (withNext (withIoc s true) held) Idle)
+    (withPhase (withCurrent (withNext (withIoc s true) held) held) Fetch)
 
 -- a bad one sets the CDMASR bit and halts
-abbrev pub settledOf : Engine → Outcome → Engine
-settledOf s Complete = completedOf s
-settledOf s Internal = haltedOf s DmaIntErr
-settledOf s Slave = haltedOf s DmaSlvErr
-settledOf s Decode = haltedOf s DmaDecErr
+abbrev pub retireOf : Engine → Outcome → Engine
+retireOf s Complete = completeDescriptorOf s
+retireOf s Internal = stopOnErrorOf s DmaIntErr
+retireOf s Slave = stopOnErrorOf s DmaSlvErr
+retireOf s Decode = stopOnErrorOf s DmaDecErr
 
 -- an update that writes its word, good or bad
-abbrev pub updatedOf : Engine → Outcome → ℕ → Advanced
-updatedOf s outcome word = record { event = Updated (s .pointers .current) word; engine = settledOf s outcome }
+abbrev pub afterUpdateOf : Engine → Outcome → ℕ → Advanced
+afterUpdateOf s outcome word = record { event = Updated (s .pointers .current) word; engine = retireOf s outcome }
 
--- update, by what the status word at current + 1C answers
-abbrev pub updateBy : Engine → Outcome → List ℕ → Verdict → Next
-updateBy s outcome m Okay = next (updatedOf s outcome (statusWordOf outcome)) (sets m (s .pointers .current + 0x1C) (bytesOf (statusWordOf outcome)))
-updateBy s outcome m SlaveError = next (haltOf s SgSlvErr) m
-updateBy s outcome m DecodeError = next (haltOf s SgDecErr) m
+-- update, by what the status word answers
+abbrev pub updateBy : Engine → Outcome → List ℕ → Verdict → AfterAdvance
+updateBy s outcome m Okay = advanceSeen (afterUpdateOf s outcome (statusWordOf outcome)) (sets m (statusPlace s) (bytesOf (statusWordOf outcome)))
+updateBy s outcome m SlaveError = advanceSeen (haltOf s SgSlvErr) m
+updateBy s outcome m DecodeError = advanceSeen (haltOf s SgDecErr) m
 
-abbrev pub updateOf : Engine → Outcome → List ℕ → List Window → Next
-updateOf s outcome m windows = updateBy s outcome m (groupOf (length m) windows (s .pointers .current + 0x1C) 4)
+abbrev pub updateOf : Engine → Outcome → List ℕ → List Window → AfterAdvance
+updateOf s outcome m windows = updateBy s outcome m (groupOf (length m) windows (statusPlace s) 4)
 
--- one step, by phase
-abbrev pub advanceBy : Engine → List ℕ → List Window → Phase → Next
-advanceBy s m windows Idle = record { event = None; engine = s; memory = m }
-advanceBy s m windows Fetch = next (fetchOf s m windows) m
-advanceBy s m windows (Move t) = moveOf s t m windows
+-- ---- one step, by phase
+
+abbrev pub advanceBy : Engine → List ℕ → List Window → Phase → AfterAdvance
+advanceBy s m windows Idle = begun s m
+advanceBy s m windows Fetch = advanceSeen (fetchOf s m windows) m
+advanceBy s m windows (Move t) = moveBurstOf s t m windows
 advanceBy s m windows (Update outcome) = updateOf s outcome m windows
 
-unfoldable pub advanceOf : Engine → List ℕ → List Window → Next
+unfoldable pub advanceOf : Engine → List ℕ → List Window → AfterAdvance
 advanceOf s m windows = advanceBy s m windows (s .phase)

@@ -2,7 +2,7 @@
 use crate::event::Advanced;
 use crate::event::Event;
 use crate::fetch::fetch;
-use crate::shift::shift;
+use crate::move_burst::move_burst;
 use crate::update::update;
 use state::engine::Engine;
 use state::engine::Phase;
@@ -11,12 +11,12 @@ ghost use mathlib.Core.Bool.{true};
 ghost use Rattle.kit.specs.Settings.{legalOf};
 ghost use Rattle.memory.specs.Windows.{windowsOf};
 ghost use Rattle.state.specs.State.{wellFormedOf};
-ghost use Rattle.steps.specs.Step.{next, advanceOf};
+ghost use Rattle.steps.specs.Step.{advanceSeen, advanceOf};
 
 pub fn advance(engine: Engine, memory: &mut [u8], windows: &[u32]) -> Advanced
     requires { ⌜ legalOf (engine .settings) ≡ true ⌝ }
     requires { ⌜ wellFormedOf engine ≡ true ⌝ }
-    ensures { λ r. ⌜ next r (now (memory .exit)) ≡ advanceOf engine (now (memory .entry)) (windowsOf (now (windows .entry))) ⌝ }
+    ensures { λ r. ⌜ advanceSeen r (now (memory .exit)) ≡ advanceOf engine (now (memory .entry)) (windowsOf (now (windows .entry))) ⌝ }
 {
     let phase = engine.phase;
     match phase {
@@ -25,7 +25,7 @@ pub fn advance(engine: Engine, memory: &mut [u8], windows: &[u32]) -> Advanced
             engine,
         },
         Phase::Fetch => fetch(engine, memory, windows),
-        Phase::Move(transfer) => shift(engine, transfer, memory, windows),
+        Phase::Move(transfer) => move_burst(engine, transfer, memory, windows),
         Phase::Update(outcome) => update(engine, outcome, memory, windows),
     }
 }

@@ -7,10 +7,10 @@ use state::engine::Phase;
 use state::engine::Status;
 use state::engine::bit_number;
 ghost use mathlib.Core.Path.{_≡_};
-ghost use Rattle.steps.specs.Step.{haltedOf, haltOf};
+ghost use Rattle.steps.specs.Step.{stopOnErrorOf, haltOf};
 
-pub fn halted(engine: Engine, bit: ErrorBit) -> Engine
-    ensures { λ r. ⌜ r ≡ haltedOf engine bit ⌝ }
+pub fn stop_on_error(engine: Engine, bit: ErrorBit) -> Engine
+    ensures { λ r. ⌜ r ≡ stopOnErrorOf engine bit ⌝ }
 {
     let status = engine.status;
     let status = Status {
@@ -33,6 +33,6 @@ pub fn halt(engine: Engine, bit: ErrorBit) -> Advanced
         current: engine.pointers.current,
         bit: bit_number(bit),
     };
-    let engine = halted(engine, bit);
+    let engine = stop_on_error(engine, bit);
     Advanced { event, engine }
 }

@@ -19,7 +19,8 @@ ghost use Rattle.kit.specs.Limits.{mostMemory};
 ghost use Rattle.kit.specs.Settings.{legalOf};
 ghost use Rattle.memory.specs.Windows.{windowsOf};
 ghost use Rattle.state.specs.State.{wellFormedOf};
-ghost use Rattle.steps.specs.Run.{refusalOf, walkFrom, begun, walked, stepOf, stepSeen, runOf, runSeen};
+ghost use Rattle.steps.specs.Step.{begun};
+ghost use Rattle.steps.specs.Run.{refusalOf, walkFrom, walkSeen, stepOf, stepSeen, runOf, runSeen};
 
 // A step's answer, its event, none beside a refusal, and the state after it.
 pub struct Stepped {
@@ -43,7 +44,7 @@ struct Walked {
 }
 
 // The first answer that fits, in the order 1, 2, 6, 9, or done.
-fn refusal(engine: Engine, size: usize, windows: usize) -> Answer
+pub fn refusal(engine: Engine, size: usize, windows: usize) -> Answer
     ensures { λ r. ⌜ numberOf r ≡ refusalOf engine size windows ⌝ }
 {
     if !legal(engine.settings) {
@@ -67,7 +68,7 @@ fn walk(engine: Engine, memory: &mut [u8], windows: &[u32], most: u32) -> Walked
     requires { ⌜ legalOf (engine .settings) ≡ true ⌝ }
     requires { ⌜ length (now memory) ≤ mostMemory ⌝ }
     requires { ⌜ wellFormedOf engine ≡ true ⌝ }
-    ensures { λ r. ⌜ walked r (now (memory .exit)) ≡ walkFrom most 0 (begun engine (now (memory .entry))) (windowsOf (now (windows .entry))) ⌝ }
+    ensures { λ r. ⌜ walkSeen r (now (memory .exit)) ≡ walkFrom most 0 (begun engine (now (memory .entry))) (windowsOf (now (windows .entry))) ⌝ }
 {
     let mut last = Advanced {
         event: Event::None,

@@ -2,10 +2,11 @@
 use crate::event::Advanced;
 use crate::event::Event;
 use crate::halt::halt;
-use crate::halt::halted;
+use crate::halt::stop_on_error;
 use kit::word::store;
 use memory::verdict::Verdict;
 use memory::verdict::judge;
+use state::descriptor::STATUS;
 use state::engine::Engine;
 use state::engine::ErrorBit;
 use state::engine::Outcome;
@@ -13,9 +14,10 @@ use state::engine::Phase;
 use state::engine::Pointers;
 use state::engine::Status;
 ghost use mathlib.Core.Path.{_≡_};
-ghost use Prim.Native.Nat.{_+_};
+ghost use Prim.Native.Nat.{_%_};
 ghost use Rattle.memory.specs.Windows.{windowsOf};
-ghost use Rattle.steps.specs.Step.{next, statusWordOf, completedOf, settledOf, updatedOf, updateOf};
+ghost use Rattle.state.specs.Bits.{alignment};
+ghost use Rattle.steps.specs.Step.{advanceSeen, statusWordOf, completeDescriptorOf, retireOf, afterUpdateOf, updateOf};
 
 // The word for an outcome: complete is bit 31; an error only bit 30, 29 or 28.
 fn status_word(outcome: Outcome) -> u32
@@ -30,8 +32,8 @@ fn status_word(outcome: Outcome) -> u32
 }
 
 // A good update: IOC_Irq, next is the held next; at the tail idle, else on to the next descriptor.
-fn completed(engine: Engine) -> Engine
-    ensures { λ r. ⌜ r ≡ completedOf engine ⌝ }
+fn complete_descriptor(engine: Engine) -> Engine
+    ensures { λ r. ⌜ r ≡ completeDescriptorOf engine ⌝ }
 {
     let status = engine.status;
     let status = Status {
@@ -63,38 +65,39 @@ fn completed(engine: Engine) -> Engine
     }
 }
 
-fn settled(engine: Engine, outcome: Outcome) -> Engine
-    ensures { λ r. ⌜ r ≡ settledOf engine outcome ⌝ }
+fn retire(engine: Engine, outcome: Outcome) -> Engine
+    ensures { λ r. ⌜ r ≡ retireOf engine outcome ⌝ }
 {
     match outcome {
-        Outcome::Complete => completed(engine),
-        Outcome::Internal => halted(engine, ErrorBit::DmaIntErr),
-        Outcome::Slave => halted(engine, ErrorBit::DmaSlvErr),
-        Outcome::Decode => halted(engine, ErrorBit::DmaDecErr),
+        Outcome::Complete => complete_descriptor(engine),
+        Outcome::Internal => stop_on_error(engine, ErrorBit::DmaIntErr),
+        Outcome::Slave => stop_on_error(engine, ErrorBit::DmaSlvErr),
+        Outcome::Decode => stop_on_error(engine, ErrorBit::DmaDecErr),
     }
 }
 
-fn updated(engine: Engine, outcome: Outcome, word: u32) -> Advanced
-    ensures { λ r. ⌜ r ≡ updatedOf engine outcome word ⌝ }
+fn after_update(engine: Engine, outcome: Outcome, word: u32) -> Advanced
+    ensures { λ r. ⌜ r ≡ afterUpdateOf engine outcome word ⌝ }
 {
     let event = Event::Update {
         current: engine.pointers.current,
         word,
     };
-    let engine = settled(engine, outcome);
+    let engine = retire(engine, outcome);
     Advanced { event, engine }
 }
 
 pub fn update(engine: Engine, outcome: Outcome, memory: &mut [u8], windows: &[u32]) -> Advanced
-    ensures { λ r. ⌜ next r (now (memory .exit)) ≡ updateOf engine outcome (now (memory .entry)) (windowsOf (now (windows .entry))) ⌝ }
+    requires { ⌜ engine .pointers .current % alignment ≡ 0 ⌝ }
+    ensures { λ r. ⌜ advanceSeen r (now (memory .exit)) ≡ updateOf engine outcome (now (memory .entry)) (windowsOf (now (windows .entry))) ⌝ }
 {
-    let at = engine.pointers.current as u64 + 28;
-    let verdict = judge(memory.len(), windows, at, 4);
+    let at = engine.pointers.current + STATUS as u32;
+    let verdict = judge(memory.len(), windows, at as u64, 4);
     match verdict {
         Verdict::Okay => {
             let word = status_word(outcome);
             store(memory, at as usize, word);
-            updated(engine, outcome, word)
+            after_update(engine, outcome, word)
         }
         Verdict::Slave => halt(engine, ErrorBit::SgSlvErr),
         Verdict::Decode => halt(engine, ErrorBit::SgDecErr),

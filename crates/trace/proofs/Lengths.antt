@@ -10,9 +10,9 @@ use Rattle.kit.specs.Limits.{mostWindows}
 use Rattle.kit.proofs.Choice.{cases}
 use Rattle.memory.specs.Windows.{windowsOf}
 use Rattle.state.specs.declared.engine.Engine.{Engine}
-use Rattle.steps.specs.Step.{Next}
+use Rattle.steps.specs.Step.{AfterAdvance}
 use Rattle.steps.specs.Run.{refusalOf, stepOf}
-use Rattle.steps.proofs.Kept.{advance-length}
+use Rattle.steps.proofs.Keeps.{advance-keeps}
 use Rattle.record.specs.declared.reading.Body.{Body}
 use Rattle.record.specs.declared.reading.Body.the-variants.{Settings, Memory, Window, Write, Read, Steps, Clock}
 use Rattle.record.specs.declared.reading.Reading.{Reading}
@@ -29,8 +29,8 @@ use Rattle.trace.proofs.Records.{inside}
 step-length : (s : Engine) (m windows : List ℕ) → length (stepOf s m windows .memory) ≡ length m
 unfolding stepOf
 step-length s m windows =
-    cases (λ (r : Next). length (r .memory) ≡ length m) (eqb (refusalOf s (length m) (length windows / 2)) 0)
-    (λ _. advance-length s m (windowsOf windows)) (λ _. refl)
+    cases (λ (r : AfterAdvance). length (r .memory) ≡ length m) (eqb (refusalOf s (length m) (length windows / 2)) 0)
+    (λ _. advance-keeps s m (windowsOf windows) .length) (λ _. refl)
 
 stepping-length : (s : Session) (left taken : ℕ) (m w : List ℕ) → length (steppingOf s left taken m w .lent) ≡ length m
 stepping-length s left taken m w =

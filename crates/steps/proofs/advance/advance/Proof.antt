@@ -5,8 +5,8 @@ use denote.Ref.{now}
 use Rattle.memory.specs.Windows.{windowsOf}
 use Rattle.state.specs.declared.engine.Phase.{Phase}
 use Rattle.state.specs.State.{phaseFits}
-use Rattle.state.proofs.WellFormed.{parts}
-use Rattle.steps.specs.Step.{next, advanceBy, advanceOf}
+use Rattle.state.proofs.WellFormed.{parts, well-formed}
+use Rattle.steps.specs.Step.{advanceSeen, advanceBy, advanceOf}
 use Rattle.steps.proofs.advance.advance.Statement.{statement}
 use Rattle.steps.proofs.advance.advance.Tie as tie
 
@@ -22,8 +22,8 @@ fetch-requires c κs = search needs
 enum-known-phase : tie.Need-enum-known-phase
 enum-known-phase c = search needs
 
-shift-requires : tie.Need-shift-requires
-shift-requires c κs =
+move-burst-requires : tie.Need-move-burst-requires
+move-burst-requires c κs =
     let a = c .before .before .before .before .before .before .args in
     (c .before .before .before .before .before .before .pre .0, subst (λ (p : Phase). phaseFits p (a .engine .control .sgmode) ≡ true) (c .before .before .phase .given .1) (parts (a .engine) (c .before .before .before .before .before .before .pre .1) .phase))
 
@@ -31,7 +31,7 @@ enum-known-phase-2 : tie.Need-enum-known-phase-2
 enum-known-phase-2 c = search needs
 
 update-requires : tie.Need-update-requires
-update-requires c κs = search needs
+update-requires c κs = well-formed (c .before .before .before .before .before .before .args .engine) (c .before .before .before .before .before .before .pre .1) .current-aligned
 
 returns : tie.Need-returns
 unfolding advanceOf
@@ -48,7 +48,7 @@ unfolding advanceOf
 returns-2 c =
     let a = c .before .before .before .before .before .before .args in
     let then = ap (advanceBy (a .engine) (now (a .memory)) (windowsOf (now (a .windows)))) (sym (c .before .before .enum-told2 .given .1)) in
-    ap (λ r. next r (now (a .memory))) (c .fetch .ensures) ∙ then
+    ap (λ r. advanceSeen r (now (a .memory))) (c .fetch .ensures) ∙ then
 
 same-length-2 : tie.Need-same-length-2
 same-length-2 c = search needs
@@ -58,7 +58,7 @@ unfolding advanceOf
 returns-3 c =
     let a = c .before .before .before .before .before .before .before .before .before .args in
     let then = ap (advanceBy (a .engine) (now (a .memory)) (windowsOf (now (a .windows)))) (sym (c .before .before .before .before .before .phase .given .1)) in
-    c .before .before .shift .ensures ∙ then
+    c .before .before .move-burst .ensures ∙ then
 
 same-length-3 : tie.Need-same-length-3
 same-length-3 c = search needs
@@ -78,7 +78,7 @@ advance-spec =
     enum-told-2
     fetch-requires
     enum-known-phase
-    shift-requires
+    move-burst-requires
     enum-known-phase-2
     update-requires
     returns

@@ -1,11 +1,9 @@
 use mathlib.Core.Path.{sym, ap, _∙_}
 use native.Mathlib.Omega.{arith}
-use borrow.Author.Needs.{needs}
 use denote.Ref.{now}
-use lib.ListN.{length}
-use Rattle.memory.specs.Windows.{windowsOf}
 use Rattle.memory.proofs.Groups.{group-okay-fits}
-use Rattle.steps.specs.Step.{fetchBy}
+use Rattle.steps.specs.Step.{acceptOf, fetchBy}
+use borrow.Author.Needs.{needs}
 use Rattle.steps.proofs.fetch.fetch.Statement.{statement}
 use Rattle.steps.proofs.fetch.fetch.Tie as tie
 
@@ -18,13 +16,14 @@ judge-requires c κs = search needs
 enum-told : tie.Need-enum-told
 enum-told c = search needs
 
-cast-taken : tie.Need-cast-taken
-cast-taken c = search needs
+cast-load-descriptor : tie.Need-cast-load-descriptor
+cast-load-descriptor c = search needs
 
-taken-requires : tie.Need-taken-requires
-taken-requires c κs =
-    let a = c .before .before .before .before .before .args in
-    group-okay-fits (length (now (a .memory))) (windowsOf (now (a .windows))) (a .engine .pointers .current) 32 (sym (c .before .before .judge .ensures) ∙ c .enum-told .given .1) (omega arith)
+load-descriptor-requires : tie.Need-load-descriptor-requires
+load-descriptor-requires c κs = group-okay-fits _ _ _ _ (sym (c .before .before .judge .ensures) ∙ c .enum-told .given .1) (omega arith)
+
+accept-requires : tie.Need-accept-requires
+accept-requires c κs = search needs
 
 enum-told-2 : tie.Need-enum-told-2
 enum-told-2 c = search needs
@@ -40,8 +39,9 @@ halt-requires-2 c κs = search needs
 
 returns : tie.Need-returns
 returns c =
-    let a = c .before .before .before .before .before .before .args in
-    c .taken .ensures ∙ ap (fetchBy (a .engine) (now (a .memory))) (sym (c .before .enum-told .given .1) ∙ c .before .before .before .judge .ensures)
+    let a = c .before .before .before .before .before .before .before .args in
+    c .accept .ensures ∙ ap (acceptOf (a .engine)) (c .before .load-descriptor .ensures)
+    ∙ ap (fetchBy (a .engine) (now (a .memory))) (sym (c .before .before .enum-told .given .1) ∙ c .before .before .before .before .judge .ensures)
 
 returns-2 : tie.Need-returns-2
 returns-2 c =
@@ -60,8 +60,9 @@ fetch-spec =
     cast-judge
     judge-requires
     enum-told
-    cast-taken
-    taken-requires
+    cast-load-descriptor
+    load-descriptor-requires
+    accept-requires
     enum-told-2
     halt-requires
     enum-told-3

@@ -10,11 +10,11 @@ use Rattle.steps.proofs.halt.halt.Tie as tie
 bit-number-requires : tie.Need-bit-number-requires
 bit-number-requires c κs = search needs
 
-halted-requires : tie.Need-halted-requires
-halted-requires c κs = search needs
+stop-on-error-requires : tie.Need-stop-on-error-requires
+stop-on-error-requires c κs = search needs
 
 returns : tie.Need-returns
-returns c = ap₂ {C = Advanced} (λ (n : ℕ) (s : Engine). record { event = Halt (c .before .before .args .engine .pointers .current) n; engine = s }) (c .before .bit-number .ensures) (c .halted .ensures)
+returns c = ap₂ {C = Advanced} (λ (n : ℕ) (s : Engine). record { event = Halt (c .before .before .args .engine .pointers .current) n; engine = s }) (c .before .bit-number .ensures) (c .stop-on-error .ensures)
 
 pub halt-spec : {M : Type 1} → statement M
-halt-spec = tie.close (tie.spec bit-number-requires halted-requires returns)
+halt-spec = tie.close (tie.spec bit-number-requires stop-on-error-requires returns)

@@ -3,7 +3,8 @@ use Prim.Native.Nat.{_/_}
 use borrow.Author.Needs.{needs}
 use denote.Ref.{now}
 use lib.ListN.{length}
-use Rattle.steps.proofs.Entries.{passes, run-refused, run-taken}
+use Rattle.steps.proofs.Acceptable.{unrefused-acceptable}
+use Rattle.steps.proofs.Entries.{run-refused, run-taken}
 use Rattle.steps.proofs.run.run.Statement.{statement}
 use Rattle.steps.proofs.run.run.Tie as tie
 
@@ -25,7 +26,7 @@ walk-requires c κs =
     let a = c .before .before .before .before .before .before .args in
     let n = c .before .before .before .refusal .ensures in
     let k = c .before .before .number .ensures in
-    let p = passes (a .engine) (length (now (a .memory))) (length (now (a .windows)) / 2) (sym n ∙ sym k ∙ c .before .if1 .left) in
+    let p = unrefused-acceptable (a .engine) (now (a .memory)) (length (now (a .windows)) / 2) (sym n ∙ sym k ∙ c .before .if1 .left) (λ i. c .before .before .before .before .before .slice-known .given i .fits) in
     (p .legal, (p .small, p .well))
 
 same-length : tie.Need-same-length

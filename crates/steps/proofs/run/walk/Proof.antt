@@ -7,16 +7,16 @@ use borrow.Author.Needs.{needs}
 use borrow.Author.Tests.{not-true, not-false}
 use Rattle.memory.specs.Windows.{windowsOf}
 use Rattle.steps.specs.declared.event.Event.the-variants.{None}
-use Rattle.steps.specs.Step.{Next, next}
+use Rattle.steps.specs.Step.{AfterAdvance, advanceSeen}
 use Rattle.steps.specs.Run.{walkFrom}
-use Rattle.steps.proofs.Kept.{advance-length}
+use Rattle.steps.proofs.Keeps.{advance-keeps}
 use Rattle.steps.proofs.Walks.{Walking, walking-begin, walking-step, walking-done, walking-idle}
 use Rattle.steps.proofs.run.walk.Statement.{statement}
 use Rattle.steps.proofs.run.walk.Tie as tie
 
 abbrev Inv-loop : tie.InvT-loop
 Inv-loop memory₀ windows most last₀ steps₀ memory last steps =
-    (length memory ≡ length memory₀) × Walking most steps (next last memory) (windowsOf windows) (walkFrom most 0 (next last₀ memory₀) (windowsOf windows))
+    (length memory ≡ length memory₀) × Walking most steps (advanceSeen last memory) (windowsOf windows) (walkFrom most 0 (advanceSeen last₀ memory₀) (windowsOf windows))
 
 abbrev μ-loop : tie.MeasureT-loop
 μ-loop memory₀ windows most last₀ steps₀ memory last steps = most - steps
@@ -25,13 +25,13 @@ loop-holds : tie.Need-loop-holds Inv-loop μ-loop
 loop-holds c =
     let a = c .before .before .args in
     let p = c .before .before .pre in
-    (refl, walking-begin (a .most) (next (record { event = None; engine = a .engine }) (a .memory .now)) (windowsOf (a .windows .now)) (p .0) (p .1 .1) (p .1 .0) (λ i. c .before .slice-known .given i .fits))
+    (refl, walking-begin (a .most) (advanceSeen (record { event = None; engine = a .engine }) (a .memory .now)) (windowsOf (a .windows .now)) (record { legal = p .0; small = p .1 .0; few = omega arith; well = p .1 .1; bytes = λ i. c .before .slice-known .given i .fits }))
 
 busy-requires : tie.Need-busy-requires Inv-loop μ-loop
 busy-requires c κs = search needs
 
 advance-requires : tie.Need-advance-requires Inv-loop μ-loop
-advance-requires c κs = (c .before .before .before .before .before .loop .inv .1 .legal, c .before .before .before .before .before .loop .inv .1 .well)
+advance-requires c κs = (c .before .before .before .before .before .loop .inv .1 .acceptable .legal, c .before .before .before .before .before .loop .inv .1 .acceptable .well)
 
 add-steps : tie.Need-add-steps Inv-loop μ-loop
 add-steps c = omega arith
@@ -45,8 +45,8 @@ loop-again c =
     let a = c .before .before .before .before .before .before .before .before .before .before .before .args in
     let e = c .before .before .advance .ensures in
     let busy = sym (c .before .before .before .before .before .busy .ensures) ∙ not-false _ (c .before .before .before .before .if1 .left) in (
-      ap (λ (x : Next). length (x .memory)) e ∙ advance-length (v .last .engine) (v .memory) (windowsOf (a .windows .now)) ∙ v .inv .0,
-      walking-step (v .inv .1) (c .before .before .before .before .before .before .before .loop-test .taken) busy e (λ i. c .slice-known2 .given i .fits),
+      ap (λ (x : AfterAdvance). length (x .memory)) e ∙ advance-keeps (v .last .engine) (v .memory) (windowsOf (a .windows .now)) .length ∙ v .inv .0,
+      walking-step (v .inv .1) (c .before .before .before .before .before .before .before .loop-test .taken) busy e,
     )
 
 same-length : tie.Need-same-length Inv-loop μ-loop

@@ -1,14 +1,12 @@
 use mathlib.Core.Path.{sym, ap, ap₂, _∙_}
-use Prim.Native.Nat.{ℕ, _+_}
+use Prim.Native.Nat.{ℕ}
 use native.Mathlib.Omega.{arith}
-use lib.ListN.{length}
 use lib.Seq.{sets}
-use borrow.Author.Needs.{needs}
 use denote.Ref.{now}
 use Rattle.kit.specs.Word.{bytesOf}
-use Rattle.memory.specs.Windows.{windowsOf}
 use Rattle.memory.proofs.Groups.{group-okay-fits}
-use Rattle.steps.specs.Step.{next, updatedOf, updateBy}
+use Rattle.steps.specs.Step.{advanceSeen, statusPlace, afterUpdateOf, updateBy}
+use borrow.Author.Needs.{needs}
 use Rattle.steps.proofs.update.update.Statement.{statement}
 use Rattle.steps.proofs.update.update.Tie as tie
 
@@ -17,6 +15,9 @@ cast-at c = search needs
 
 add-at : tie.Need-add-at
 add-at c = search needs
+
+cast-judge : tie.Need-cast-judge
+cast-judge c = search needs
 
 judge-requires : tie.Need-judge-requires
 judge-requires c κs = search needs
@@ -27,13 +28,14 @@ enum-told c = search needs
 status-word-requires : tie.Need-status-word-requires
 status-word-requires c κs = search needs
 
-store-requires : tie.Need-store-requires
-store-requires c κs =
-    let a = c .before .before .before .before .before .before .before .before .args in
-    group-okay-fits (length (now (a .memory))) (windowsOf (now (a .windows))) (a .engine .pointers .current + 28) 4 (sym (c .before .before .before .before .judge .ensures) ∙ c .before .before .enum-told .given .1) (omega arith)
+cast-store : tie.Need-cast-store
+cast-store c = search needs
 
-updated-requires : tie.Need-updated-requires
-updated-requires c κs = search needs
+store-requires : tie.Need-store-requires
+store-requires c κs = group-okay-fits _ _ _ _ (sym (c .before .before .before .before .judge .ensures) ∙ c .before .before .enum-told .given .1) (omega arith)
+
+after-update-requires : tie.Need-after-update-requires
+after-update-requires c κs = search needs
 
 enum-told-2 : tie.Need-enum-told-2
 enum-told-2 c = search needs
@@ -53,25 +55,22 @@ same-length c = search needs
 returns : tie.Need-returns
 returns c =
     let a = c .before .before .before .before .before .before .before .before .before .before .before .before .args in
-    let judged = sym (c .before .before .before .before .before .before .enum-told .given .1) ∙ c .before .before .before .before .before .before .before .before .judge .ensures in
-    let then = ap (updateBy (a .engine) (a .outcome) (now (a .memory))) judged in
     let word = c .before .before .before .before .before .status-word .ensures in
-    ap₂ next (c .updated .ensures ∙ ap (updatedOf (a .engine) (a .outcome)) word)
-    (c .before .before .before .store .ensures ∙ ap (λ (v : ℕ). sets (now (a .memory)) (a .engine .pointers .current + 28) (bytesOf v)) word) ∙ then
+    ap₂ advanceSeen (c .after-update .ensures ∙ ap (afterUpdateOf (a .engine) (a .outcome)) word)
+    (c .before .before .before .store .ensures ∙ ap (λ (v : ℕ). sets (now (a .memory)) (statusPlace (a .engine)) (bytesOf v)) word)
+    ∙ ap (updateBy (a .engine) (a .outcome) (now (a .memory))) (sym (c .before .before .before .before .before .before .enum-told .given .1) ∙ c .before .before .before .before .before .before .before .before .judge .ensures)
 
 returns-2 : tie.Need-returns-2
 returns-2 c =
     let a = c .before .before .before .before .before .before .before .args in
-    let judged = sym (c .before .enum-told2 .given .1) ∙ c .before .before .before .judge .ensures in
-    let then = ap (updateBy (a .engine) (a .outcome) (now (a .memory))) judged in
-    ap (λ r. next r (now (a .memory))) (c .halt .ensures) ∙ then
+    ap (λ r. advanceSeen r (now (a .memory))) (c .halt .ensures)
+    ∙ ap (updateBy (a .engine) (a .outcome) (now (a .memory))) (sym (c .before .enum-told2 .given .1) ∙ c .before .before .before .judge .ensures)
 
 returns-3 : tie.Need-returns-3
 returns-3 c =
     let a = c .before .before .before .before .before .before .before .args in
-    let judged = sym (c .before .enum-told3 .given .1) ∙ c .before .before .before .judge .ensures in
-    let then = ap (updateBy (a .engine) (a .outcome) (now (a .memory))) judged in
-    ap (λ r. next r (now (a .memory))) (c .halt2 .ensures) ∙ then
+    ap (λ r. advanceSeen r (now (a .memory))) (c .halt2 .ensures)
+    ∙ ap (updateBy (a .engine) (a .outcome) (now (a .memory))) (sym (c .before .enum-told3 .given .1) ∙ c .before .before .before .judge .ensures)
 
 pub update-spec : {M : Type 1} → statement M
 update-spec =
@@ -79,11 +78,13 @@ update-spec =
     (tie.spec
     cast-at
     add-at
+    cast-judge
     judge-requires
     enum-told
     status-word-requires
+    cast-store
     store-requires
-    updated-requires
+    after-update-requires
     enum-told-2
     halt-requires
     enum-told-3

@@ -5,8 +5,8 @@ use Rattle.kit.proofs.Choice.{yes, no}
 use Rattle.state.specs.declared.engine.Engine.{Engine}
 use Rattle.steps.specs.declared.event.Event.the-variants.{Fault}
 use Rattle.steps.specs.declared.event.Advanced.{Advanced}
-use Rattle.steps.proofs.shift.faulted.Statement.{statement}
-use Rattle.steps.proofs.shift.faulted.Tie as tie
+use Rattle.steps.proofs.move_burst.after_fault.Statement.{statement}
+use Rattle.steps.proofs.move_burst.after_fault.Tie as tie
 
 bit-number-requires : tie.Need-bit-number-requires
 bit-number-requires c κs = search needs
@@ -16,13 +16,13 @@ returns c =
     let a = c .before .before .before .before .before .before .before .args in
     ap₂ {C = Advanced} (λ (n : ℕ) (s : Engine). record { event = Fault (a .destination) n; engine = s }) (c .before .before .before .before .before .before .bit-number .ensures) (yes _ (c .before .before .before .before .before .if1 .taken) refl)
 
-halted-requires : tie.Need-halted-requires
-halted-requires c κs = search needs
+stop-on-error-requires : tie.Need-stop-on-error-requires
+stop-on-error-requires c κs = search needs
 
 returns-2 : tie.Need-returns-2
 returns-2 c =
     let a = c .before .before .before .args in
-    ap₂ {C = Advanced} (λ (n : ℕ) (s : Engine). record { event = Fault (a .destination) n; engine = s }) (c .before .before .bit-number .ensures) (no _ (c .before .if1 .left) (c .halted .ensures))
+    ap₂ {C = Advanced} (λ (n : ℕ) (s : Engine). record { event = Fault (a .destination) n; engine = s }) (c .before .before .bit-number .ensures) (no _ (c .before .if1 .left) (c .stop-on-error .ensures))
 
-pub faulted-spec : {M : Type 1} → statement M
-faulted-spec = tie.close (tie.spec bit-number-requires returns halted-requires returns-2)
+pub after-fault-spec : {M : Type 1} → statement M
+after-fault-spec = tie.close (tie.spec bit-number-requires returns stop-on-error-requires returns-2)

@@ -1,4 +1,4 @@
--- The course of a transfer: what is still to come, from a state that has moved k bytes, and from one that waits for its update.
+-- The progress of a transfer: what is still to come, from a state that has moved k bytes, and from one that waits for its update.
 use mathlib.Core.Path.{_≡_, refl, sym, ap, ap₂, subst, _∙_}
 use mathlib.Core.Bool.{Bool, true, false}
 use mathlib.Core.List.{List, [], _∷_, _++_}
@@ -11,6 +11,7 @@ use borrow.Author.Tests.{eqb-true, eqb-false}
 use Rattle.kit.specs.Choice.{when}
 use Rattle.kit.specs.Settings.{legalOf}
 use Rattle.kit.specs.Word.{bytesOf}
+use Rattle.kit.specs.declared.settings.Settings.{Settings}
 use Rattle.kit.proofs.Choice.{cases, never}
 use Rattle.kit.proofs.Legal.{legal}
 use Rattle.cut.specs.declared.Burst.{Burst}
@@ -18,24 +19,20 @@ use Rattle.cut.specs.Cut.{burstEnd, cut}
 use Rattle.cut.proofs.Reach.{ends}
 use Rattle.cut.proofs.Cutting.{cut-stop, cut-step}
 use Rattle.memory.specs.declared.window.Window.{Window}
-use Rattle.memory.specs.declared.verdict.Verdict.{Verdict}
-use Rattle.memory.specs.declared.verdict.Verdict.the-variants.{Okay, Slave as SlaveError, Decode as DecodeError}
-use Rattle.memory.specs.Verdict.{groupOf, worse}
+use Rattle.memory.specs.declared.verdict.Verdict.the-variants.{Okay}
 use Rattle.memory.specs.Burst.{copied}
-use Rattle.memory.proofs.Groups.{group-okay-fits}
-use Rattle.memory.proofs.Verdicts.{worse-okay}
-use Rattle.kit.specs.declared.settings.Settings.{Settings}
+use Rattle.memory.proofs.Groups.{group-okay-fits, pair-okay-fits}
 use Rattle.state.specs.declared.engine.Engine.{Engine}
 use Rattle.state.specs.declared.engine.Transfer.{Transfer}
 use Rattle.state.specs.declared.engine.ErrorBit.{ErrorBit}
-use Rattle.state.specs.declared.engine.ErrorBit.the-variants.{DmaSlvErr, DmaDecErr}
 use Rattle.state.specs.declared.engine.Outcome.{Outcome}
 use Rattle.state.specs.declared.engine.Outcome.the-variants.{Complete, Internal, Slave, Decode}
 use Rattle.state.specs.declared.engine.Phase.{Phase}
-use Rattle.state.specs.declared.engine.Phase.the-variants.{Move, Update}
+use Rattle.state.specs.declared.engine.Phase.the-variants.{Idle, Fetch, Move, Update}
 use Rattle.state.specs.State.{busyOf, errorSetOf, withPhase}
 use Rattle.steps.specs.declared.event.Event.the-variants.{Move as Moved}
-use Rattle.steps.specs.Step.{Next, haltedOf, endedOf, movedOnOf, stopOf, moveBy, updateBy, advanceBy, advanceOf}
+use Rattle.steps.specs.Step.{AfterAdvance, advanceSeen, stopOnErrorOf, finishTransferOf, continueOrFinishOf, afterBurstOf, readsAt, writesAt, nextBytes, statusPlace, statusWordOf, afterUpdateOf, advanceOf}
+use Rattle.steps.proofs.Advances.{failed, judged, Advance, rests, halts, fetches, moves, faults, updates, advances}
 use Rattle.claims.specs.Transfers.{Act, step, write, read, act, after, burstsOf, bursts, steps, resets, inTransfer, Runs, Own, left, Copied}
 use Rattle.claims.proofs.Writes.{Does, keeps, fresh, waits, starts, write-does}
 use Rattle.claims.proofs.Bytes.{Held, Whole, held-burst, whole-simple, whole-chain}
@@ -48,6 +45,19 @@ Good s acts = errorSetOf (after s acts .status .fault) ≡ false
 bad : (acts : List Act) (s : Engine) → inTransfer (s .phase) ≡ false → errorSetOf (s .status .fault) ≡ true → Runs s acts → Good s acts → ⊥
 bad [] s out error runs good = never (sym good ∙ error)
 bad (a ∷ acts) s out error runs good = never (sym out ∙ runs .0)
+
+-- the two phases of a transfer
+moving : Phase → Bool
+moving Idle = false
+moving Fetch = false
+moving (Move t) = true
+moving (Update o) = false
+
+waiting : Phase → Bool
+waiting Idle = false
+waiting Fetch = false
+waiting (Move t) = false
+waiting (Update o) = true
 
 -- t, with k bytes moved
 abbrev pub movedTo : Transfer → ℕ → Transfer
@@ -95,48 +105,52 @@ module _ (s₀ : Engine) (t : Transfer) where
   -- ---- waiting for the update
 
   -- after a step to r, where a step was lent m
-  abbrev Settled : Outcome → List ℕ → List Act → Next → Type 0
+  abbrev Settled : Outcome → List ℕ → List Act → AfterAdvance → Type 0
   Settled o m acts r = (o ≡ Complete)
       × Rest [] 1 (Whole s₀ t) (burstsOf (r .event) ++ bursts (r .engine) acts) (suc (steps acts)) (λ x. (m ≡ x) × Own (r .memory) (r .engine) acts)
       (λ x. left (r .memory) (r .engine) acts)
 
   module _ (chain : s₀ .control .sgmode ≡ true) (s : Engine) (m : List ℕ) (windows : List Window) (acts : List Act) where
-    abbrev Leads : Outcome → Next → Type 0
+    abbrev Leads : Outcome → AfterAdvance → Type 0
     Leads o r = Runs (r .engine) acts → Good (r .engine) acts → Settled o m acts r
 
-    written : s .pointers .current ≡ s₀ .pointers .current → s .pointers .current + 0x1C + 4 ≤ length m → (m₀ : List ℕ) → Whole s₀ t m₀ m
-        → Copied s₀ t m₀ (sets m (s .pointers .current + 0x1C) (bytesOf 0x80000000))
+    written : s .pointers .current ≡ s₀ .pointers .current → statusPlace s + 4 ≤ length m → (m₀ : List ℕ) → Whole s₀ t m₀ m
+        → Copied s₀ t m₀ (sets m (statusPlace s) (bytesOf 0x80000000))
     written e fits m₀ h =
         subst (λ (c : ℕ). Copied s₀ t m₀ (sets m (c + 0x1C) (bytesOf 0x80000000))) (sym e)
         (whole-chain s₀ t chain m₀ m h (subst (λ (c : ℕ). c + 0x1C + 4 ≤ length m) e fits))
 
-    judged : (o : Outcome) → s .pointers .current ≡ s₀ .pointers .current → (v : Verdict)
-        → groupOf (length m) windows (s .pointers .current + 0x1C) 4 ≡ v → Leads o (updateBy s o m v)
-    judged Complete e Okay okay =
-        let fits = group-okay-fits (length m) windows (s .pointers .current + 0x1C) 4 okay (omega arith) in
-        let m′ : List ℕ = sets m (s .pointers .current + 0x1C) (bytesOf 0x80000000) in
+    -- the update wrote the word of outcome o
+    retired : (o : Outcome) → s .pointers .current ≡ s₀ .pointers .current → statusPlace s + 4 ≤ length m
+        → Leads o (advanceSeen (afterUpdateOf s o (statusWordOf o)) (sets m (statusPlace s) (bytesOf (statusWordOf o))))
+    retired Complete e fits =
+        let m′ : List ℕ = sets m (statusPlace s) (bytesOf 0x80000000) in
         cases
         (λ (x : Engine). Runs x acts → Good x acts → (Complete ≡ Complete)
         × Rest [] 1 (Whole s₀ t) (bursts x acts) (suc (steps acts)) (λ y. (m ≡ y) × Own m′ x acts) (λ y. left m′ x acts))
         (eqb (s .pointers .current) (s .pointers .tail))
         (λ _ runs _. (refl, over-rest acts _ m m′ [] refl runs refl refl (written e fits)))
         (λ _ runs _. (refl, over-rest acts _ m m′ [] refl runs refl refl (written e fits)))
-    judged Internal e Okay okay = λ runs good. absurd (bad acts _ refl refl runs good)
-    judged Slave e Okay okay = λ runs good. absurd (bad acts _ refl refl runs good)
-    judged Decode e Okay okay = λ runs good. absurd (bad acts _ refl refl runs good)
-    judged o e SlaveError okay = λ runs good. absurd (bad acts _ refl refl runs good)
-    judged o e DecodeError okay = λ runs good. absurd (bad acts _ refl refl runs good)
+    retired Internal e fits = λ runs good. absurd (bad acts _ refl refl runs good)
+    retired Slave e fits = λ runs good. absurd (bad acts _ refl refl runs good)
+    retired Decode e fits = λ runs good. absurd (bad acts _ refl refl runs good)
 
-    settled : (o : Outcome) → Now (Update o) s → Leads o (advanceOf s m windows)
-    unfolding advanceOf
-    settled o now =
-        subst (λ (p : Phase). Leads o (advanceBy s m windows p)) (sym (now .phase))
-        (judged o (now .current) (groupOf (length m) windows (s .pointers .current + 0x1C) 4) refl)
+    settled : (o : Outcome) → Now (Update o) s → {r : AfterAdvance} → Advance s m windows r → Leads o r
+    unfolding waiting
+    settled o now (rests e) = absurd (never (sym (ap waiting e) ∙ ap waiting (now .phase)))
+    settled o now (halts e b f) = λ runs good. absurd (bad acts _ refl f runs good)
+    settled o now (fetches e okay ready) = absurd (never (sym (ap waiting e) ∙ ap waiting (now .phase)))
+    settled o now (moves u e okay) = absurd (never (sym (ap waiting e) ∙ ap waiting (now .phase)))
+    settled o now (faults u e p f b g) = absurd (never (sym (ap waiting e) ∙ ap waiting (now .phase)))
+    settled o now (updates p e okay) =
+        let same : p ≡ o = cc (sym e ∙ now .phase) in
+        subst (λ (x : Outcome). Leads x (advanceSeen (afterUpdateOf s p (statusWordOf p)) (sets m (statusPlace s) (bytesOf (statusWordOf p))))) same
+        (retired p (now .current) (group-okay-fits (length m) windows (statusPlace s) 4 okay (omega arith)))
 
   pub settle : (chain : s₀ .control .sgmode ≡ true) (acts : List Act) (s : Engine) (o : Outcome) → Now (Update o) s → Runs s acts → Good s acts
       → (o ≡ Complete) × Rest [] 1 (Whole s₀ t) (bursts s acts) (steps acts) (λ m. Own m s acts) (λ m. left m s acts)
   settle chain [] s o now runs good = absurd (never (sym runs ∙ ap inTransfer (now .phase)))
-  settle chain (step m windows ∷ acts) s o now runs good = settled chain s m windows acts o now (runs .2) good
+  settle chain (step m windows ∷ acts) s o now runs good = settled chain s m windows acts o now (advances s m windows) (runs .2) good
   settle chain (write offset value ∷ acts) s o now runs good =
       settle chain acts (act s (write offset value)) o (now-write s offset value refl (runs .1) now) (runs .2) good
   settle chain (read offset ∷ acts) s o now runs good = settle chain acts s o now (runs .2) good
@@ -159,7 +173,7 @@ module _ (s₀ : Engine) (t : Transfer) where
   Onward s acts = (k : ℕ) → k < t .total → Now (Move (movedTo t k)) s → Runs s acts → Good s acts → Goes k s acts
 
   -- a step that was lent m leads to r
-  abbrev Takes : ℕ → List ℕ → List Act → Next → Type 0
+  abbrev Takes : ℕ → List ℕ → List Act → AfterAdvance → Type 0
   Takes k m acts r = Onward (r .engine) acts → Runs (r .engine) acts → Good (r .engine) acts
       → Rest (remains k) (length (remains k) + last) (Held s₀ t k) (burstsOf (r .event) ++ bursts (r .engine) acts) (suc (steps acts))
       (λ x. (m ≡ x) × Own (r .memory) (r .engine) acts) (λ x. left (r .memory) (r .engine) acts)
@@ -177,7 +191,7 @@ module _ (s₀ : Engine) (t : Transfer) where
     module _ (s : Engine) (k : ℕ) (now : Now (Move (movedTo t k)) s) (m : List ℕ) (windows : List Window) (acts : List Act)
         (n : ℕ) (first : remains k ≡ piece k n ∷ remains (k + n)) (some : 0 < n) (within : k + n ≤ t .total) where
       -- the burst moved, and the engine is x
-      abbrev carriedTo : Engine → Next
+      abbrev carriedTo : Engine → AfterAdvance
       carriedTo x = record { event = Moved (piece k n); engine = x; memory = carry k n m }
 
       module _ (reads : t .source + k + n ≤ length m) (writes : t .destination + k + n ≤ length m) where
@@ -198,7 +212,7 @@ module _ (s₀ : Engine) (t : Transfer) where
             first ∙ ap (λ (r : List Burst). piece k n ∷ r)
             (cut-stop (s₀ .settings .width) (s₀ .settings .beats) (t .destination + (k + n)) (t .destination + t .total) (omega arith))
 
-        ended : k + n ≡ t .total → Takes k m acts (carriedTo (endedOf s))
+        ended : k + n ≡ t .total → Takes k m acts (carriedTo (finishTransferOf s))
         ended e = cases (λ (x : Engine). Takes k m acts (carriedTo x)) (s .control .sgmode)
             (λ c onward runs good.
             let chain = sym (now .mode) ∙ c in
@@ -215,7 +229,7 @@ module _ (s₀ : Engine) (t : Transfer) where
             (omega (arith, ap length (none-left e), ap (λ (x : Bool). when {A = ℕ} x 1 0) simple))
             (λ m₀ h. whole-simple s₀ t simple m₀ (carry k n m) (whole e m₀ h)))
 
-        carried : Takes k m acts (carriedTo (movedOnOf s (movedTo t k) (k + n)))
+        carried : Takes k m acts (carriedTo (continueOrFinishOf s (movedTo t k) (k + n)))
         carried = cases (λ (x : Engine). Takes k m acts (carriedTo x)) (eqb (k + n) (t .total)) (λ e. ended (eqb-true (k + n) (t .total) e))
             (λ e onward runs good.
             let short = eqb-false (k + n) (t .total) e in
@@ -227,44 +241,60 @@ module _ (s₀ : Engine) (t : Transfer) where
             })
 
       -- a move that fails leads to an error bit
-      faulted : (o : Outcome) (x : ErrorBit) → (o ≡ Complete → ⊥) → errorSetOf x ≡ true → Runs (when (s .control .sgmode) (withPhase s (Update o)) (haltedOf s x)) acts
-          → Good (when (s .control .sgmode) (withPhase s (Update o)) (haltedOf s x)) acts → ⊥
+      faulted : (o : Outcome) (x : ErrorBit) → failed o ≡ true → errorSetOf x ≡ true → Runs (when (s .control .sgmode) (withPhase s (Update o)) (stopOnErrorOf s x)) acts
+          → Good (when (s .control .sgmode) (withPhase s (Update o)) (stopOnErrorOf s x)) acts → ⊥
       faulted o x f e = cases (λ (y : Engine). Runs y acts → Good y acts → ⊥) (s .control .sgmode)
-          (λ c runs good. f (settle (sym (now .mode) ∙ c) acts (withPhase s (Update o)) o
-          (record { phase = refl; settings = now .settings; mode = now .mode; current = now .current }) runs good .0))
-          (λ c runs good. bad acts (haltedOf s x) refl e runs good)
+          (λ c runs good. never (sym (ap failed (settle (sym (now .mode) ∙ c) acts (withPhase s (Update o)) o
+          (record { phase = refl; settings = now .settings; mode = now .mode; current = now .current }) runs good .0)) ∙ f))
+          (λ c runs good. bad acts (stopOnErrorOf s x) refl e runs good)
 
-      judge : (v : Verdict) → worse (groupOf (length m) windows (t .source + k) n) (groupOf (length m) windows (t .destination + k) n) ≡ v
-          → Takes k m acts (moveBy s (movedTo t k) m (t .source + k) (t .destination + k) n v)
-      judge Okay okay =
-          let both = worse-okay (groupOf (length m) windows (t .source + k) n) (groupOf (length m) windows (t .destination + k) n) okay in
-          carried (group-okay-fits (length m) windows (t .source + k) n (both .0) some) (group-okay-fits (length m) windows (t .destination + k) n (both .1) some)
-      judge SlaveError _ = λ onward runs good. absurd (faulted Slave DmaSlvErr (λ e. let z : _≡_ {A = ℕ} 0 1 = cc in omega arith) refl runs good)
-      judge DecodeError _ = λ onward runs good. absurd (faulted Decode DmaDecErr (λ e. let z : _≡_ {A = ℕ} 0 1 = cc in omega arith) refl runs good)
+    -- the next burst is the first of what remains
+    pub record NextBurst (s : Engine) (k : ℕ) : Type 0 where
+      pub first : remains k ≡ piece k (nextBytes s (movedTo t k)) ∷ remains (k + nextBytes s (movedTo t k))
+      pub some : 0 < nextBytes s (movedTo t k)
+      pub within : k + nextBytes s (movedTo t k) ≤ t .total
 
-    moves-on : (s : Engine) (k : ℕ) → k < t .total → Now (Move (movedTo t k)) s → (m : List ℕ) (windows : List Window) (acts : List Act)
-        → Takes k m acts (advanceOf s m windows)
-    unfolding advanceOf
-    moves-on s k some now m windows acts =
-        let g = legal (s₀ .settings .width) (s₀ .settings .beats) legals in
+    next-burst : (s : Engine) (k : ℕ) → k < t .total → s .settings ≡ s₀ .settings → NextBurst s k
+    next-burst s k short settings =
         let w = s₀ .settings .width in
         let l = s₀ .settings .beats in
+        let g = legal w l legals in
         let at = t .destination + k in
         let end = t .destination + t .total in
-        let n = stopOf s (movedTo t k) - at in
+        let n = nextBytes s (movedTo t k) in
+        let rest : at + (t .total - k) ≡ end = omega arith in
+        let same : n ≡ burstEnd w l at end - at = ap₂ (λ (x : Settings) (e : ℕ). burstEnd (x .width) (x .beats) at e - at) settings rest in
         let p = ends w l (g .width-positive) (g .beats-positive) at end (omega arith) in
-        let same : stopOf s (movedTo t k) ≡ burstEnd w l at end = ap (λ (x : Settings). burstEnd (x .width) (x .beats) at end) (now .settings) in
-        let first : remains k ≡ piece k n ∷ remains (k + n) =
-        cut-step w l (g .width-positive) (g .beats-positive) at end (omega arith)
-        ∙ ap₂ (λ (x y : ℕ). record { start = at; bytes = x } ∷ cut w l y end) (omega arith) (omega arith) in
-        subst (λ (p : Phase). Takes k m acts (advanceBy s m windows p)) (sym (now .phase))
-        (judge s k now m windows acts n first (omega arith) (omega arith)
-        (worse (groupOf (length m) windows (t .source + k) n) (groupOf (length m) windows (t .destination + k) n)) refl)
+        record {
+          first = cut-step w l (g .width-positive) (g .beats-positive) at end (omega arith)
+              ∙ ap₂ (λ (x y : ℕ). record { start = at; bytes = x } ∷ cut w l y end) (sym same) (omega (arith, same, p .past));
+          some = omega (arith, same, p .past);
+          within = omega (arith, same, p .past, p .within);
+        }
 
-    pub course : (acts : List Act) (s : Engine) → Onward s acts
-    course [] s k some now runs good = absurd (never (sym runs ∙ ap inTransfer (now .phase)))
-    course (step m windows ∷ acts) s k some now runs good =
-        moves-on s k some now m windows acts (course acts (advanceOf s m windows .engine)) (runs .2) good
-    course (write offset value ∷ acts) s k some now runs good =
-        course acts (act s (write offset value)) k some (now-write s offset value refl (runs .1) now) (runs .2) good
-    course (read offset ∷ acts) s k some now runs good = course acts s k some now (runs .2) good
+    moves-on : (s : Engine) (k : ℕ) → k < t .total → (now : Now (Move (movedTo t k)) s) (m : List ℕ) (windows : List Window) (acts : List Act)
+        → {r : AfterAdvance} → Advance s m windows r → Takes k m acts r
+    unfolding moving
+    moves-on s k some now m windows acts (rests e) = absurd (never (sym (ap moving e) ∙ ap moving (now .phase)))
+    moves-on s k some now m windows acts (halts e b f) = λ onward runs good. absurd (bad acts _ refl f runs good)
+    moves-on s k some now m windows acts (fetches e okay ready) = absurd (never (sym (ap moving e) ∙ ap moving (now .phase)))
+    moves-on s k some now m windows acts (moves u e okay) =
+        let same : u ≡ movedTo t k = cc (sym e ∙ now .phase) in
+        let x = movedTo t k in
+        let n = nextBytes s x in
+        let b = next-burst s k some (now .settings) in
+        let fits = pair-okay-fits (length m) windows (readsAt x) (writesAt x) n (ap (judged s m windows) (sym same) ∙ okay) (b .some) in
+        subst (λ (y : Transfer). Takes k m acts (advanceSeen (afterBurstOf s y (writesAt y) (nextBytes s y)) (copied m (readsAt y) (writesAt y) (nextBytes s y)))) (sym same)
+        (carried s k now m windows acts n (b .first) (b .some) (b .within) (fits .0) (fits .1))
+    moves-on s k some now m windows acts (faults u e o f b g) =
+        let n = next-burst s k some (now .settings) in
+        λ onward runs good. absurd (faulted s k now m windows acts (nextBytes s (movedTo t k)) (n .first) (n .some) (n .within) o b f g runs good)
+    moves-on s k some now m windows acts (updates o e okay) = absurd (never (sym (ap moving e) ∙ ap moving (now .phase)))
+
+    pub progress : (acts : List Act) (s : Engine) → Onward s acts
+    progress [] s k some now runs good = absurd (never (sym runs ∙ ap inTransfer (now .phase)))
+    progress (step m windows ∷ acts) s k some now runs good =
+        moves-on s k some now m windows acts (advances s m windows) (progress acts (advanceOf s m windows .engine)) (runs .2) good
+    progress (write offset value ∷ acts) s k some now runs good =
+        progress acts (act s (write offset value)) k some (now-write s offset value refl (runs .1) now) (runs .2) good
+    progress (read offset ∷ acts) s k some now runs good = progress acts s k some now (runs .2) good

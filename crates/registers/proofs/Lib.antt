@@ -1,2 +1,4 @@
+pub mod Claims
+pub mod Guard
 pub mod Registers
 pub mod Writes

@@ -1,13 +1,13 @@
--- Laws of the register map: the upper halves, and that two results of one read or write are equal.
-use mathlib.Core.Path.{_≡_, sym, ap, subst, _∙_}
-use Prim.Native.Nat.{ℕ}
+-- The upper halves, and how large the number of an error bit is.
+use mathlib.Core.Path.{sym, subst}
+use Prim.Native.Nat.{ℕ, _≤_}
+use native.Mathlib.Omega.{arith}
 use mathlib.Core.Logic.{inl, inr}
 use types.Run.{OneOf}
-use Rattle.kit.proofs.Numbers.{number-tells}
-use Rattle.registers.specs.declared.read.Reading.{Reading}
-use Rattle.registers.specs.declared.write.Written.{Written}
-use Rattle.registers.specs.Read.{upperHalves, Value, readSeen}
-use Rattle.registers.specs.Write.{AfterWrite, writeSeen}
+use Rattle.state.specs.declared.engine.ErrorBit.{ErrorBit}
+use Rattle.state.specs.declared.engine.ErrorBit.the-variants.{Clear, DmaIntErr, DmaSlvErr, DmaDecErr, SgIntErr, SgSlvErr, SgDecErr}
+use Rattle.state.specs.Bits.{errorBitOf}
+use Rattle.registers.specs.Read.{upperHalves}
 
 -- what holds at each upper half holds at an offset among them
 pub upper-half : (P : ℕ → Type 0) → P 0x0C → P 0x14 → P 0x1C → P 0x24 → (offset : ℕ) → OneOf upperHalves offset → P offset
@@ -16,17 +16,11 @@ upper-half P a b c d offset (inr (inl e)) = subst P (sym e) b
 upper-half P a b c d offset (inr (inr (inl e))) = subst P (sym e) c
 upper-half P a b c d offset (inr (inr (inr e))) = subst P (sym e) d
 
--- two results that one contract allows are equal
-pub read-unique : {r q : Reading} {x : Value} → readSeen r ≡ x → readSeen q ≡ x → r ≡ q
-read-unique {r} {q} e f =
-    let same = e ∙ sym f in
-    let answers = number-tells (ap (λ (y : Value). y .answer) same) in
-    let values = ap (λ (y : Value). y .value) same in
-    λ i. record { answer = answers i; value = values i }
-
-pub write-unique : {r q : Written} {x : AfterWrite} → writeSeen r ≡ x → writeSeen q ≡ x → r ≡ q
-write-unique {r} {q} e f =
-    let same = e ∙ sym f in
-    let answers = number-tells (ap (λ (y : AfterWrite). y .answer) same) in
-    let engines = ap (λ (y : AfterWrite). y .engine) same in
-    λ i. record { answer = answers i; engine = engines i }
+pub error-bit-small : (b : ErrorBit) → errorBitOf b ≤ 16
+error-bit-small Clear = omega arith
+error-bit-small DmaIntErr = omega arith
+error-bit-small DmaSlvErr = omega arith
+error-bit-small DmaDecErr = omega arith
+error-bit-small SgIntErr = omega arith
+error-bit-small SgSlvErr = omega arith
+error-bit-small SgDecErr = omega arith

@@ -1,2 +1,4 @@
+pub mod Changes
+pub mod Claims
 pub mod Read
 pub mod Write

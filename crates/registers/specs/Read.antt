@@ -6,25 +6,29 @@ use lib.Dec.{eqb}
 use Rattle.kit.specs.Choice.{when}
 use Rattle.kit.specs.Answer.{numberOf}
 use Rattle.kit.specs.Settings.{among, legalOf}
+use Rattle.state.specs.declared.engine.Control.{Control}
+use Rattle.state.specs.declared.engine.Status.{Status}
+use Rattle.state.specs.declared.engine.Phase.{Phase}
 use Rattle.state.specs.declared.engine.Engine.{Engine}
 use Rattle.registers.specs.declared.read.Reading.{Reading}
 use Rattle.state.specs.State.{busyOf, errorSetOf, wellFormedOf}
-use Rattle.state.specs.Bits.{errorBitOf}
+use Rattle.state.specs.Bits.{tailPntrEn, sgMode, iocIrqEn, errIrqEn, irqThreshold, idle, sgIncld, iocIrq, errIrq, irqThresholdSts, errorBitOf}
 
 -- a bit's value where it is set
 abbrev pub bitIf : Bool → ℕ → ℕ
 bitIf set value = when set value 0
 
 -- CDMACR: bit 1 and bits 23..16 read 1, each as a field; bits 3, 12 and 14 are kept
-abbrev pub controlOf : Engine → ℕ
-controlOf s = 0x00010002 + bitIf (s .control .sgmode) (2 ^ 3) + bitIf (s .control .iocen) (2 ^ 12) + bitIf (s .control .erren) (2 ^ 14)
+abbrev pub controlOf : Control → ℕ
+controlOf c =
+    2 ^ irqThreshold + 2 ^ tailPntrEn + bitIf (c .sgmode) (2 ^ sgMode) + bitIf (c .iocen) (2 ^ iocIrqEn) + bitIf (c .erren) (2 ^ errIrqEn)
 
 -- CDMASR: bit 3 and bits 23..16 read 1; bit 1 Idle, the error bits, 12 IOC_Irq, 14 Err_Irq
-abbrev pub statusOf : Engine → ℕ
-statusOf s =
-    0x00010008 + bitIf (not (busyOf (s .phase))) (2 ^ 1) + bitIf (errorSetOf (s .status .fault)) (2 ^ errorBitOf (s .status .fault))
-    + bitIf (s .status .ioc) (2 ^ 12)
-    + bitIf (s .status .err) (2 ^ 14)
+abbrev pub statusOf : Status → Phase → ℕ
+statusOf t p =
+    2 ^ irqThresholdSts + 2 ^ sgIncld + bitIf (not (busyOf p)) (2 ^ idle) + bitIf (errorSetOf (t .fault)) (2 ^ errorBitOf (t .fault))
+    + bitIf (t .ioc) (2 ^ iocIrq)
+    + bitIf (t .err) (2 ^ errIrq)
 
 -- an answer's number, and the value beside it
 pub record Value : Type 0 where
@@ -44,8 +48,8 @@ upperHalves = 0x0C ∷ 0x14 ∷ 0x1C ∷ 0x24 ∷ []
 -- each register's value; upper halves read 0; any other offset: 3
 unfoldable pub registerOf : Engine → ℕ → Value
 registerOf s offset =
-    when (eqb offset 0x00) (gives (controlOf s))
-    (when (eqb offset 0x04) (gives (statusOf s))
+    when (eqb offset 0x00) (gives (controlOf (s .control)))
+    (when (eqb offset 0x04) (gives (statusOf (s .status) (s .phase)))
     (when (eqb offset 0x08) (gives (s .pointers .current))
     (when (eqb offset 0x10) (gives (s .pointers .tail))
     (when (eqb offset 0x18) (gives (s .simple .sa))

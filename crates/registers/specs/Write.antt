@@ -1,16 +1,25 @@
 -- Document 01, "Registers": what a write does.
-use Prim.Native.Nat.{ℕ, _%_, _^_}
+use Prim.Native.Nat.{ℕ}
 use mathlib.Core.Bool.{Bool, true, not}
 use lib.Dec.{eqb}
 use Rattle.kit.specs.Choice.{when, both, either}
 use Rattle.kit.specs.Answer.{numberOf}
 use Rattle.kit.specs.Settings.{among, legalOf}
+use Rattle.state.specs.declared.descriptor.Start.{Start}
+use Rattle.state.specs.declared.descriptor.Start.the-variants.{Moves, Internal}
 use Rattle.state.specs.declared.engine.Engine.{Engine}
+use Rattle.kit.specs.declared.settings.Settings.{Settings}
+use Rattle.state.specs.declared.engine.Control.{Control}
+use Rattle.state.specs.declared.engine.Status.{Status}
+use Rattle.state.specs.declared.engine.Pointers.{Pointers}
+use Rattle.state.specs.declared.engine.Simple.{Simple}
 use Rattle.state.specs.declared.engine.ErrorBit.the-variants.{DmaIntErr}
+use Rattle.state.specs.declared.engine.Phase.{Phase}
 use Rattle.state.specs.declared.engine.Phase.the-variants.{Fetch, Move}
 use Rattle.registers.specs.declared.write.Written.{Written}
-use Rattle.state.specs.State.{freshOf, busyOf, errorSetOf, wellFormedOf, withControl, withStatus, withPointers, withSimple, withPhase}
-use Rattle.state.specs.Bits.{bit, pointer}
+use Rattle.state.specs.State.{freshOf, busyOf, errorSetOf, wellFormedOf, withControl, withStatus, withCurrent, withTail, withNext, withSa, withDa, withBtt, withPhase}
+use Rattle.state.specs.Bits.{bit, pointer, reset, sgMode, iocIrqEn, errIrqEn, iocIrq, errIrq}
+use Rattle.state.specs.Descriptor.{countOf, startOf}
 use Rattle.registers.specs.Read.{upperHalves}
 
 -- an answer's number and the state after it; a refusal leaves the state as it was
@@ -24,6 +33,11 @@ done s = record { answer = 0; engine = s }
 abbrev pub ignored : ℕ → Engine → AfterWrite
 ignored n s = record { answer = n; engine = s }
 
+-- the same, the state by its parts
+abbrev pub builtOf : ℕ → Settings → Control → Status → Pointers → Simple → Phase → AfterWrite
+builtOf n x c t p r phase =
+    ignored n (record { settings = x; control = c; status = t; pointers = p; simple = r; phase = phase })
+
 -- two tests that differ
 abbrev pub differ : Bool → Bool → Bool
 differ a b = when a (not b) b
@@ -33,27 +47,30 @@ abbrev pub guardOf : Engine → Bool → Engine → AfterWrite
 guardOf s barred next = when (errorSetOf (s .status .fault)) (ignored 5 s) (when barred (ignored 4 s) (done next))
 
 -- CDMACR: bit 2 resets to a fresh state with the same settings; a change of SGMode while busy: 4
+abbrev pub controlFrom : ℕ → Control
+controlFrom v = record { sgmode = bit sgMode v; iocen = bit iocIrqEn v; erren = bit errIrqEn v }
+
 abbrev pub writeControlOf : Engine → ℕ → AfterWrite
 writeControlOf s v =
-    when (bit 2 v) (done (freshOf (s .settings)))
-    (when (both (busyOf (s .phase)) (differ (bit 3 v) (s .control .sgmode))) (ignored 4 s)
-    (done (withControl s (record { sgmode = bit 3 v; iocen = bit 12 v; erren = bit 14 v }))))
+    when (bit reset v) (done (freshOf (s .settings)))
+    (when (both (busyOf (s .phase)) (differ (bit sgMode v) (s .control .sgmode))) (ignored 4 s) (done (withControl s (controlFrom v))))
 
 -- CDMASR: writing 1 clears bits 12 and 14
+abbrev pub clearedOf : Status → ℕ → Status
+clearedOf t v = record { fault = t .fault; ioc = both (not (bit iocIrq v)) (t .ioc); err = both (not (bit errIrq v)) (t .err) }
+
 abbrev pub writeStatusOf : Engine → ℕ → AfterWrite
-writeStatusOf s v =
-    done (withStatus s (record { fault = s .status .fault; ioc = both (not (bit 12 v)) (s .status .ioc); err = both (not (bit 14 v)) (s .status .err) }))
+writeStatusOf s v = done (withStatus s (clearedOf (s .status) v))
 
 -- CURDESC: sets the next pointer too; busy: 4
 abbrev pub writeCurrentOf : Engine → ℕ → AfterWrite
-writeCurrentOf s v =
-    guardOf s (busyOf (s .phase)) (withPointers s (record { current = pointer v; tail = s .pointers .tail; next = pointer v; heldnext = s .pointers .heldnext }))
+writeCurrentOf s v = guardOf s (busyOf (s .phase)) (withNext (withCurrent s (pointer v)) (pointer v))
 
 -- TAILDESC: idle, it starts: current becomes next, phase fetch; busy, it only replaces the tail
 abbrev pub tailWritten : Engine → ℕ → Engine
 tailWritten s v =
-    when (busyOf (s .phase)) (withPointers s (record { current = s .pointers .current; tail = pointer v; next = s .pointers .next; heldnext = s .pointers .heldnext }))
-    (withPhase (withPointers s (record { current = s .pointers .next; tail = pointer v; next = s .pointers .next; heldnext = s .pointers .heldnext })) Fetch)
+    let kept = withTail s (pointer v) in
+    when (busyOf (s .phase)) kept (withPhase (withCurrent kept (s .pointers .next)) Fetch)
 
 -- simple mode: 4
 abbrev pub writeTailOf : Engine → ℕ → AfterWrite
@@ -61,23 +78,28 @@ writeTailOf s v = guardOf s (not (s .control .sgmode)) (tailWritten s v)
 
 -- SA, DA: busy: 4
 abbrev pub writeSourceOf : Engine → ℕ → AfterWrite
-writeSourceOf s v =
-    guardOf s (busyOf (s .phase)) (withSimple s (record { sa = v; da = s .simple .da; btt = s .simple .btt }))
+writeSourceOf s v = guardOf s (busyOf (s .phase)) (withSa s v)
 
 abbrev pub writeDestinationOf : Engine → ℕ → AfterWrite
-writeDestinationOf s v =
-    guardOf s (busyOf (s .phase)) (withSimple s (record { sa = s .simple .sa; da = v; btt = s .simple .btt }))
+writeDestinationOf s v = guardOf s (busyOf (s .phase)) (withDa s v)
 
--- BTT: the count is kept; nonzero starts a move, zero sets DMAIntErr and Err_Irq and stays idle
-abbrev pub countWritten : Engine → ℕ → Engine
-countWritten s n =
-    let kept = withSimple s (record { sa = s .simple .sa; da = s .simple .da; btt = n }) in
-    when (eqb n 0) (withStatus kept (record { fault = DmaIntErr; ioc = s .status .ioc; err = true }))
-    (withPhase kept (Move (record { source = s .simple .sa; destination = s .simple .da; total = n; moved = 0 })))
+-- a transfer that starts moves; an internal error sets DMAIntErr and Err_Irq, and the engine stays idle
+abbrev pub startedPhase : Start → Phase → Phase
+startedPhase (Moves t) p = Move t
+startedPhase Internal p = p
 
--- busy or chain mode: 4; keeps the low 23 bits
+abbrev pub startedStatus : Start → Status → Status
+startedStatus (Moves t) x = x
+startedStatus Internal x = record { fault = DmaIntErr; ioc = x .ioc; err = true }
+
+abbrev pub startedOf : Engine → Start → Engine
+startedOf s start = withPhase (withStatus s (startedStatus start (s .status))) (startedPhase start (s .phase))
+
+-- BTT: keeps the low 23 bits and starts; busy or chain mode: 4
 abbrev pub writeCountOf : Engine → ℕ → AfterWrite
-writeCountOf s v = guardOf s (either (busyOf (s .phase)) (s .control .sgmode)) (countWritten s (v % 2 ^ 23))
+writeCountOf s v =
+    guardOf s (either (busyOf (s .phase)) (s .control .sgmode))
+    (startedOf (withBtt s (countOf v)) (startOf (s .simple .sa) (s .simple .da) (countOf v)))
 
 -- each register's rule; upper halves: written without effect; any other offset: 3
 unfoldable pub registerWrittenOf : Engine → ℕ → ℕ → AfterWrite

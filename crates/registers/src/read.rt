@@ -1,14 +1,26 @@
 // Document 01, "Registers": reading a register.
 use kit::answer::Answer;
 use kit::settings::legal;
+use state::bits::ERR_IRQ;
+use state::bits::ERR_IRQ_EN;
+use state::bits::IDLE;
+use state::bits::IOC_IRQ;
+use state::bits::IOC_IRQ_EN;
+use state::bits::IRQ_THRESHOLD;
+use state::bits::IRQ_THRESHOLD_STS;
+use state::bits::SG_INCLD;
+use state::bits::SG_MODE;
+use state::bits::TAIL_PNTR_EN;
+use state::engine::Control;
 use state::engine::Engine;
-use state::engine::ErrorBit;
+use state::engine::Phase;
+use state::engine::Status;
+use state::engine::bit_number;
 use state::engine::busy;
+use state::engine::error_set;
 use state::engine::well_formed;
 ghost use mathlib.Core.Path.{_≡_};
 ghost use Prim.Native.Nat.{_≤_, _^_};
-ghost use Rattle.state.specs.State.{errorSetOf};
-ghost use Rattle.state.specs.Bits.{errorBitOf};
 ghost use Rattle.registers.specs.Read.{bitIf, controlOf, statusOf, registerOf, readOf, readSeen, gives};
 
 // The answer, and the value beside it, 0 beside a refusal.
@@ -17,60 +29,34 @@ pub struct Reading {
     pub value: u32,
 }
 
-// CDMACR bit 1 and the threshold field read 1; CDMASR bit 3 (SGIncld) and the threshold field read 1.
-const CONTROL_ALWAYS: u32 = 0x00010002;
-
-const STATUS_ALWAYS: u32 = 0x00010008;
-
-const IDLE: u32 = 0x00000002;
-
-const SG_MODE: u32 = 0x00000008;
-
-const COMPLETE: u32 = 0x00001000;
-
-const ERROR: u32 = 0x00004000;
-
-fn bit_if(set: bool, bit: u32) -> u32
-    ensures { λ r. ⌜ (r ≡ bitIf set bit) × (r ≤ bit) ⌝ }
+// A bit's value if it is set, else 0.
+fn bit_if(set: bool, number: u32) -> u32
+    requires { ⌜ number ≤ 16 ⌝ }
+    ensures { λ r. ⌜ (r ≡ bitIf set (2 ^ number)) × (r ≤ 2 ^ 16) ⌝ }
 {
-    if set { bit } else { 0 }
+    if set { 1 << number } else { 0 }
 }
 
-// The value of the CDMASR error bit that is set, or 0 where none is.
-fn error_value(bit: ErrorBit) -> u32
-    ensures { λ r. ⌜ (r ≡ bitIf (errorSetOf bit) (2 ^ errorBitOf bit)) × (r ≤ 1024) ⌝ }
+fn read_control(control: Control) -> u32
+    ensures { λ r. ⌜ r ≡ controlOf control ⌝ }
 {
-    match bit {
-        ErrorBit::Clear => 0,
-        ErrorBit::DmaIntErr => 0x010,
-        ErrorBit::DmaSlvErr => 0x020,
-        ErrorBit::DmaDecErr => 0x040,
-        ErrorBit::SgIntErr => 0x100,
-        ErrorBit::SgSlvErr => 0x200,
-        ErrorBit::SgDecErr => 0x400,
-    }
+    bit_if(true, IRQ_THRESHOLD)
+        + bit_if(true, TAIL_PNTR_EN)
+        + bit_if(control.sgmode, SG_MODE)
+        + bit_if(control.iocen, IOC_IRQ_EN)
+        + bit_if(control.erren, ERR_IRQ_EN)
 }
 
-fn read_control(engine: Engine) -> u32
-    ensures { λ r. ⌜ r ≡ controlOf engine ⌝ }
+fn read_status(status: Status, phase: Phase) -> u32
+    ensures { λ r. ⌜ r ≡ statusOf status phase ⌝ }
 {
-    CONTROL_ALWAYS
-        + bit_if(engine.control.sgmode, SG_MODE)
-        + bit_if(engine.control.iocen, COMPLETE)
-        + bit_if(engine.control.erren, ERROR)
-}
-
-fn read_status(engine: Engine) -> u32
-    ensures { λ r. ⌜ r ≡ statusOf engine ⌝ }
-{
-    let phase = engine.phase;
-    let status = engine.status;
     let fault = status.fault;
-    STATUS_ALWAYS
+    bit_if(true, IRQ_THRESHOLD_STS)
+        + bit_if(true, SG_INCLD)
         + bit_if(!busy(phase), IDLE)
-        + error_value(fault)
-        + bit_if(status.ioc, COMPLETE)
-        + bit_if(status.err, ERROR)
+        + bit_if(error_set(fault), bit_number(fault))
+        + bit_if(status.ioc, IOC_IRQ)
+        + bit_if(status.err, ERR_IRQ)
 }
 
 fn given(value: u32) -> Reading
@@ -86,9 +72,11 @@ fn given(value: u32) -> Reading
 fn read_register(engine: Engine, offset: u32) -> Reading
     ensures { λ r. ⌜ readSeen r ≡ registerOf engine offset ⌝ }
 {
+    let status = engine.status;
+    let phase = engine.phase;
     match offset {
-        0x00 => given(read_control(engine)),
-        0x04 => given(read_status(engine)),
+        0x00 => given(read_control(engine.control)),
+        0x04 => given(read_status(status, phase)),
         0x08 => given(engine.pointers.current),
         0x10 => given(engine.pointers.tail),
         0x18 => given(engine.simple.sa),

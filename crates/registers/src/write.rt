@@ -1,8 +1,21 @@
-// Document 01, "Registers": writing a register.
+// Document 01, "Registers": writing a register. A write's answer comes first; each field is then chosen by it, and the
+// state is built once, which costs less than a choice between two states.
 use kit::answer::Answer;
 use kit::logic::both;
 use kit::logic::either;
+use kit::settings::Settings;
 use kit::settings::legal;
+use state::bits::ERR_IRQ;
+use state::bits::ERR_IRQ_EN;
+use state::bits::IOC_IRQ;
+use state::bits::IOC_IRQ_EN;
+use state::bits::RESET;
+use state::bits::SG_MODE;
+use state::bits::bit;
+use state::descriptor::Start;
+use state::descriptor::count;
+use state::descriptor::pointer;
+use state::descriptor::start_transfer;
 use state::engine::Control;
 use state::engine::Engine;
 use state::engine::ErrorBit;
@@ -10,15 +23,17 @@ use state::engine::Phase;
 use state::engine::Pointers;
 use state::engine::Simple;
 use state::engine::Status;
-use state::engine::Transfer;
 use state::engine::busy;
 use state::engine::error_set;
 use state::engine::fresh;
 use state::engine::well_formed;
 ghost use mathlib.Core.Path.{_≡_};
+ghost use mathlib.Core.Bool.{not};
 ghost use Rattle.kit.specs.Answer.{numberOf};
-ghost use Rattle.state.specs.Bits.{pointer as pointerOf};
-ghost use Rattle.registers.specs.Write.{done as doneOf, ignored as ignoredOf, differ as differOf, guardOf, writeControlOf, writeStatusOf, writeCurrentOf, tailWritten, writeTailOf, writeSourceOf, writeDestinationOf, countWritten, writeCountOf, registerWrittenOf, writeOf, writeSeen};
+ghost use Rattle.kit.specs.Choice.{when, both as bothOf};
+ghost use Rattle.state.specs.declared.descriptor.Start.the-variants.{Internal};
+ghost use Rattle.state.specs.State.{errorSetOf};
+ghost use Rattle.registers.specs.Write.{done as doneOf, ignored as ignoredOf, differ as differOf, builtOf, controlFrom, clearedOf, startedPhase, startedStatus, writeControlOf, writeStatusOf, writeCurrentOf, writeTailOf, writeSourceOf, writeDestinationOf, writeCountOf, registerWrittenOf, writeOf, writeSeen};
 
 // The answer, and the state after the write.
 pub struct Written {
@@ -42,174 +57,295 @@ fn ignored(answer: Answer, engine: Engine) -> Written
     Written { answer, engine }
 }
 
-// The pointer in a value: its low six bits are dropped.
-fn pointer(value: u32) -> u32
-    ensures { λ r. ⌜ r ≡ pointerOf value ⌝ }
-{
-    value / 64 * 64
-}
-
 fn differ(first: bool, second: bool) -> bool
     ensures { λ r. ⌜ r ≡ differOf first second ⌝ }
 {
     if first { !second } else { second }
 }
 
-// The next state, unless an error bit is set (5) or the write is barred (4).
-fn guard(engine: Engine, barred: bool, next: Engine) -> Written
-    ensures { λ r. ⌜ writeSeen r ≡ guardOf engine barred next ⌝ }
+// Answer 5 if an error bit is set, 4 if the write is barred, else 0.
+fn gate(status: Status, barred: bool) -> Answer
+    ensures { λ r. ⌜ numberOf r ≡ when (errorSetOf (status .fault)) 5 (when barred 4 0) ⌝ }
 {
-    let status = engine.status;
     let fault = status.fault;
     if error_set(fault) {
-        return ignored(Answer::ErrorSet, engine);
+        return Answer::ErrorSet;
     }
     if barred {
-        return ignored(Answer::Busy, engine);
+        return Answer::Busy;
     }
-    done(next)
+    Answer::Done
+}
+
+// Whether that answer is 0.
+fn allows(status: Status, barred: bool) -> bool
+    ensures { λ r. ⌜ r ≡ bothOf (not (errorSetOf (status .fault))) (not barred) ⌝ }
+{
+    let fault = status.fault;
+    both(!error_set(fault), !barred)
+}
+
+fn pick(chosen: bool, first: u32, second: u32) -> u32
+    ensures { λ r. ⌜ r ≡ when chosen first second ⌝ }
+{
+    if chosen { first } else { second }
+}
+
+fn pick_phase(chosen: bool, first: Phase, second: Phase) -> Phase
+    ensures { λ r. ⌜ r ≡ when chosen first second ⌝ }
+{
+    if chosen { first } else { second }
+}
+
+// The one place that builds a state.
+fn build(
+    answer: Answer,
+    settings: Settings,
+    control: Control,
+    status: Status,
+    pointers: Pointers,
+    simple: Simple,
+    phase: Phase,
+) -> Written
+    ensures { λ r. ⌜ writeSeen r ≡ builtOf (numberOf answer) settings control status pointers simple phase ⌝ }
+{
+    Written {
+        answer,
+        engine: Engine {
+            settings,
+            control,
+            status,
+            pointers,
+            simple,
+            phase,
+        },
+    }
+}
+
+fn control_bits(value: u32) -> Control
+    ensures { λ r. ⌜ r ≡ controlFrom value ⌝ }
+{
+    Control {
+        sgmode: bit(value, SG_MODE),
+        iocen: bit(value, IOC_IRQ_EN),
+        erren: bit(value, ERR_IRQ_EN),
+    }
 }
 
 fn write_control(engine: Engine, value: u32) -> Written
     ensures { λ r. ⌜ writeSeen r ≡ writeControlOf engine value ⌝ }
 {
-    if value / 4 % 2 == 1 {
-        let settings = engine.settings;
-        return done(fresh(settings));
+    if bit(value, RESET) {
+        return done(fresh(engine.settings));
     }
-    let sgmode = value / 8 % 2 == 1;
+    let control = control_bits(value);
     let phase = engine.phase;
-    if both(busy(phase), differ(sgmode, engine.control.sgmode)) {
+    if both(busy(phase), differ(control.sgmode, engine.control.sgmode)) {
         return ignored(Answer::Busy, engine);
     }
-    let control = Control {
-        sgmode,
-        iocen: value / 4096 % 2 == 1,
-        erren: value / 16384 % 2 == 1,
-    };
-    done(Engine { control, ..engine })
+    let status = engine.status;
+    build(
+        Answer::Done,
+        engine.settings,
+        control,
+        status,
+        engine.pointers,
+        engine.simple,
+        phase,
+    )
+}
+
+// IOC_Irq and Err_Irq, each cleared by a 1.
+fn clear_interrupts(status: Status, value: u32) -> Status
+    ensures { λ r. ⌜ r ≡ clearedOf status value ⌝ }
+{
+    Status {
+        ioc: both(!bit(value, IOC_IRQ), status.ioc),
+        err: both(!bit(value, ERR_IRQ), status.err),
+        ..status
+    }
 }
 
 fn write_status(engine: Engine, value: u32) -> Written
     ensures { λ r. ⌜ writeSeen r ≡ writeStatusOf engine value ⌝ }
 {
     let status = engine.status;
-    let status = Status {
-        ioc: both(value / 4096 % 2 != 1, status.ioc),
-        err: both(value / 16384 % 2 != 1, status.err),
-        ..status
-    };
-    done(Engine { status, ..engine })
+    let phase = engine.phase;
+    build(
+        Answer::Done,
+        engine.settings,
+        engine.control,
+        clear_interrupts(status, value),
+        engine.pointers,
+        engine.simple,
+        phase,
+    )
+}
+
+fn point_current(allowed: bool, pointers: Pointers, current: u32) -> Pointers
+    ensures { λ r. ⌜ r ≡ record {
+      current = when allowed current (pointers .current);
+      tail = pointers .tail;
+      next = when allowed current (pointers .next);
+      heldnext = pointers .heldnext;
+    } ⌝ }
+{
+    Pointers {
+        current: pick(allowed, current, pointers.current),
+        next: pick(allowed, current, pointers.next),
+        ..pointers
+    }
 }
 
 fn write_current(engine: Engine, value: u32) -> Written
     ensures { λ r. ⌜ writeSeen r ≡ writeCurrentOf engine value ⌝ }
 {
-    let current = pointer(value);
-    let pointers = engine.pointers;
-    let pointers = Pointers {
-        current,
-        next: current,
-        ..pointers
-    };
+    let status = engine.status;
     let phase = engine.phase;
-    guard(engine, busy(phase), Engine { pointers, ..engine })
+    let barred = busy(phase);
+    let allowed = allows(status, barred);
+    build(
+        gate(status, barred),
+        engine.settings,
+        engine.control,
+        status,
+        point_current(allowed, engine.pointers, pointer(value)),
+        engine.simple,
+        phase,
+    )
+}
+
+fn point_tail(allowed: bool, starts: bool, pointers: Pointers, tail: u32) -> Pointers
+    ensures { λ r. ⌜ r ≡ record {
+      current = when starts (pointers .next) (pointers .current);
+      tail = when allowed tail (pointers .tail);
+      next = pointers .next;
+      heldnext = pointers .heldnext;
+    } ⌝ }
+{
+    Pointers {
+        current: pick(starts, pointers.next, pointers.current),
+        tail: pick(allowed, tail, pointers.tail),
+        ..pointers
+    }
 }
 
 // A tail that is written while busy is only replaced; written while idle it starts the chain.
-fn with_tail(engine: Engine, value: u32) -> Engine
-    ensures { λ r. ⌜ r ≡ tailWritten engine value ⌝ }
-{
-    let tail = pointer(value);
-    let pointers = engine.pointers;
-    let phase = engine.phase;
-    if busy(phase) {
-        let pointers = Pointers { tail, ..pointers };
-        return Engine { pointers, ..engine };
-    }
-    let pointers = Pointers {
-        current: pointers.next,
-        tail,
-        ..pointers
-    };
-    Engine {
-        pointers,
-        phase: Phase::Fetch,
-        ..engine
-    }
-}
-
 fn write_tail(engine: Engine, value: u32) -> Written
     ensures { λ r. ⌜ writeSeen r ≡ writeTailOf engine value ⌝ }
 {
-    guard(engine, !engine.control.sgmode, with_tail(engine, value))
+    let status = engine.status;
+    let phase = engine.phase;
+    let barred = !engine.control.sgmode;
+    let allowed = allows(status, barred);
+    let starts = both(allowed, !busy(phase));
+    build(
+        gate(status, barred),
+        engine.settings,
+        engine.control,
+        status,
+        point_tail(allowed, starts, engine.pointers, pointer(value)),
+        engine.simple,
+        pick_phase(starts, Phase::Fetch, phase),
+    )
 }
 
 fn write_source(engine: Engine, value: u32) -> Written
     ensures { λ r. ⌜ writeSeen r ≡ writeSourceOf engine value ⌝ }
 {
-    let simple = engine.simple;
-    let simple = Simple {
-        sa: value,
-        ..simple
-    };
+    let status = engine.status;
     let phase = engine.phase;
-    guard(engine, busy(phase), Engine { simple, ..engine })
+    let barred = busy(phase);
+    let simple = engine.simple;
+    build(
+        gate(status, barred),
+        engine.settings,
+        engine.control,
+        status,
+        engine.pointers,
+        Simple {
+            sa: pick(allows(status, barred), value, simple.sa),
+            ..simple
+        },
+        phase,
+    )
 }
 
 fn write_destination(engine: Engine, value: u32) -> Written
     ensures { λ r. ⌜ writeSeen r ≡ writeDestinationOf engine value ⌝ }
 {
-    let simple = engine.simple;
-    let simple = Simple {
-        da: value,
-        ..simple
-    };
+    let status = engine.status;
     let phase = engine.phase;
-    guard(engine, busy(phase), Engine { simple, ..engine })
+    let barred = busy(phase);
+    let simple = engine.simple;
+    build(
+        gate(status, barred),
+        engine.settings,
+        engine.control,
+        status,
+        engine.pointers,
+        Simple {
+            da: pick(allows(status, barred), value, simple.da),
+            ..simple
+        },
+        phase,
+    )
 }
 
-// A count that is not 0 starts a move; 0 is an internal error.
-fn with_count(engine: Engine, count: u32) -> Engine
-    ensures { λ r. ⌜ r ≡ countWritten engine count ⌝ }
+fn start_phase(allowed: bool, start: Start, phase: Phase) -> Phase
+    ensures { λ r. ⌜ r ≡ when allowed (startedPhase start phase) phase ⌝ }
 {
-    let simple = engine.simple;
-    let simple = Simple {
-        btt: count,
-        ..simple
-    };
-    if count == 0 {
-        let status = engine.status;
-        let status = Status {
+    match start {
+        Start::Moves(transfer) => pick_phase(allowed, Phase::Move(transfer), phase),
+        Start::Internal => phase,
+    }
+}
+
+// DMAIntErr and Err_Irq, if the write is allowed.
+fn fail(allowed: bool, status: Status) -> Status
+    ensures { λ r. ⌜ r ≡ when allowed (startedStatus Internal status) status ⌝ }
+{
+    if allowed {
+        return Status {
             fault: ErrorBit::DmaIntErr,
             err: true,
             ..status
         };
-        return Engine {
-            simple,
-            status,
-            ..engine
-        };
     }
-    let transfer = Transfer {
-        source: simple.sa,
-        destination: simple.da,
-        total: count,
-        moved: 0,
-    };
-    Engine {
-        simple,
-        phase: Phase::Move(transfer),
-        ..engine
+    status
+}
+
+fn start_status(allowed: bool, start: Start, status: Status) -> Status
+    ensures { λ r. ⌜ r ≡ when allowed (startedStatus start status) status ⌝ }
+{
+    match start {
+        Start::Moves(_) => status,
+        Start::Internal => fail(allowed, status),
     }
 }
 
 fn write_count(engine: Engine, value: u32) -> Written
     ensures { λ r. ⌜ writeSeen r ≡ writeCountOf engine value ⌝ }
 {
+    let status = engine.status;
     let phase = engine.phase;
     let barred = either(busy(phase), engine.control.sgmode);
-    guard(engine, barred, with_count(engine, value % 8388608))
+    let allowed = allows(status, barred);
+    let simple = engine.simple;
+    let total = count(value);
+    let start = start_transfer(simple.sa, simple.da, total);
+    build(
+        gate(status, barred),
+        engine.settings,
+        engine.control,
+        start_status(allowed, start, status),
+        engine.pointers,
+        Simple {
+            btt: pick(allowed, total, simple.btt),
+            ..simple
+        },
+        start_phase(allowed, start, phase),
+    )
 }
 
 // One arm a register, in the data book's order.

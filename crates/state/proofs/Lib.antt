@@ -1,1 +1,3 @@
+pub mod Claims
+pub mod Start
 pub mod WellFormed

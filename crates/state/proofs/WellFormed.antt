@@ -1,22 +1,27 @@
 -- A state that is well formed, as named facts: from the test and back to it.
-use mathlib.Core.Path.{_≡_, refl, ap}
-use Prim.Native.Nat.{ℕ, _+_, _%_, _≤_, _<_}
+use mathlib.Core.Path.{_≡_, refl, sym, ap, _∙_}
+use mathlib.Core.Logic.{_⊎_, inl, inr}
+use native.Mathlib.Omega.{arith}
+use Prim.Native.Nat.{ℕ, _+_, _-_, _%_, _≤_, _<_}
 use mathlib.Core.Bool.{Bool, true, false, not}
 use lib.Dec.{eqb, leb, ltb}
-use borrow.Author.Tests.{eqb-true, eq-eqb, ltb-true, lt-ltb, leb-true, le-leb}
+use borrow.Author.Tests.{eqb-true, eq-eqb, ltb-true, lt-ltb, le-ltb, leb-true, leb-false, le-leb}
 use Rattle.kit.specs.Choice.{both}
 use Rattle.kit.specs.Limits.{mostBytes, addressEnd}
-use Rattle.kit.proofs.Choice.{both-left, both-right, both-join, never}
+use Rattle.kit.proofs.Choice.{both-left, both-right, both-join, decide, never}
 use Rattle.kit.specs.declared.settings.Settings.{Settings}
 use Rattle.state.specs.declared.engine.Transfer.{Transfer}
 use Rattle.state.specs.declared.engine.Engine.{Engine}
+pub use Rattle.state.specs.Claims.{TransferFits, WellFormed}
 use Rattle.state.specs.State.{freshOf, busyOf, errorSetOf, aligned, transferFits, phaseFits, wellFormedOf}
 
-pub record TransferFits (t : Transfer) : Type 0 where
-  pub moved-less : t .moved < t .total
-  pub total-small : t .total ≤ mostBytes
-  pub source-inside : t .source + t .moved < addressEnd
-  pub destination-inside : t .destination + t .moved < addressEnd
+-- an offset within the room above an address
+pub room-above : (a n : ℕ) → a < addressEnd → leb n (4294967295 - a) ≡ ltb (a + n) addressEnd
+room-above a n h = go (decide (leb n (4294967295 - a)))
+  where
+    go : (leb n (4294967295 - a) ≡ true) ⊎ (leb n (4294967295 - a) ≡ false) → leb n (4294967295 - a) ≡ ltb (a + n) addressEnd
+    go (inl e) = let le = leb-true n (4294967295 - a) e in e ∙ sym (lt-ltb (a + n) addressEnd (omega (arith, le, h)))
+    go (inr e) = let gt = leb-false n (4294967295 - a) e in e ∙ sym (le-ltb (a + n) addressEnd (omega (arith, gt, h)))
 
 -- four tests joined, and each of them
 four : (t u v w : Bool) → both t (both u (both v w)) ≡ true → (t ≡ true) × (u ≡ true) × (v ≡ true) × (w ≡ true)
@@ -40,15 +45,6 @@ pub transfer-fits-test : (t : Transfer) → TransferFits t → transferFits t �
 transfer-fits-test t h =
     both-join (lt-ltb _ _ (h .moved-less))
     (both-join (le-leb _ _ (h .total-small)) (both-join (lt-ltb _ _ (h .source-inside)) (lt-ltb _ _ (h .destination-inside))))
-
-pub record WellFormed (s : Engine) : Type 0 where
-  pub current-aligned : s .pointers .current % 64 ≡ 0
-  pub tail-aligned : s .pointers .tail % 64 ≡ 0
-  pub next-aligned : s .pointers .next % 64 ≡ 0
-  pub held-aligned : s .pointers .heldnext % 64 ≡ 0
-  pub count-small : s .simple .btt ≤ mostBytes
-  pub error-idle : errorSetOf (s .status .fault) ≡ true → busyOf (s .phase) ≡ false
-  pub phase-fits : phaseFits (s .phase) (s .control .sgmode) ≡ true
 
 -- not both, and one of them: the other fails
 other-fails : (t u : Bool) → not (both t u) ≡ true → t ≡ true → u ≡ false

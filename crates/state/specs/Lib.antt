@@ -1,3 +1,4 @@
 pub mod Bits
+pub mod Claims
 pub mod Descriptor
 pub mod State

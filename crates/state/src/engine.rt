@@ -6,12 +6,14 @@ use crate::bits::SG_DEC_ERR;
 use crate::bits::SG_INT_ERR;
 use crate::bits::SG_SLV_ERR;
 use crate::descriptor::ALIGNMENT;
-use kit::limits::ADDRESS_END;
 use kit::limits::MOST_BYTES;
 use kit::logic::both;
 use kit::logic::either;
 use kit::settings::Settings;
 ghost use mathlib.Core.Path.{_≡_};
+ghost use Prim.Native.Nat.{_+_};
+ghost use lib.Dec.{ltb};
+ghost use Rattle.kit.specs.Limits.{addressEnd};
 ghost use Rattle.state.specs.Bits.{errorBitOf};
 ghost use Rattle.state.specs.State.{freshOf, busyOf, errorSetOf, aligned, transferFits, phaseFits, wellFormedOf, interruptLineOf};
 
@@ -175,6 +177,15 @@ fn pointers_aligned(pointers: Pointers) -> bool
     )
 }
 
+const LAST_ADDRESS: u32 = 0xffffffff;
+
+// The byte `moved` bytes on is an address; told by the room above the start, so no sum can overflow.
+fn inside(start: u32, moved: u32) -> bool
+    ensures { λ r. ⌜ r ≡ ltb (start + moved) addressEnd ⌝ }
+{
+    moved <= LAST_ADDRESS - start
+}
+
 fn transfer_fits(transfer: Transfer) -> bool
     ensures { λ r. ⌜ r ≡ transferFits transfer ⌝ }
 {
@@ -183,17 +194,11 @@ fn transfer_fits(transfer: Transfer) -> bool
         both(
             transfer.total <= MOST_BYTES,
             both(
-                wide(transfer.source) + wide(transfer.moved) < ADDRESS_END,
-                wide(transfer.destination) + wide(transfer.moved) < ADDRESS_END,
+                inside(transfer.source, transfer.moved),
+                inside(transfer.destination, transfer.moved),
             ),
         ),
     )
-}
-
-fn wide(number: u32) -> u64
-    ensures { λ r. ⌜ r ≡ number ⌝ }
-{
-    number as u64
 }
 
 fn phase_fits(phase: Phase, sgmode: bool) -> bool

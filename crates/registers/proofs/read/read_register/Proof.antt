@@ -71,7 +71,7 @@ returns-8 : tie.Need-returns-8
 unfolding registerOf
 returns-8 c =
     let e = c .given8 .ensures in
-    upper-half (λ (o : ℕ). readSeen (c .given8 .result) ≡ registerOf (c .before .before .args .engine) o) e e e e (c .before .before .args .offset) (c .before .match .keys8)
+    upper-half (λ (o : ℕ). readSeen (c .given8 .result) ≡ registerOf (c .before .before .before .args .engine) o) e e e e (c .before .before .before .args .offset) (c .before .match .keys8)
 
 returns-9 : tie.Need-returns-9
 unfolding registerOf

@@ -1,18 +1,21 @@
+use mathlib.Core.Path.{ap, _∙_}
+use Rattle.registers.specs.Write.{done}
+use Rattle.state.specs.declared.engine.Status.{Status}
+use Rattle.state.specs.State.{withStatus}
 use borrow.Author.Needs.{needs}
 use Rattle.registers.proofs.write.write_status.Statement.{statement}
 use Rattle.registers.proofs.write.write_status.Tie as tie
 
-both-requires : tie.Need-both-requires
-both-requires c κs = search needs
+clear-interrupts-requires : tie.Need-clear-interrupts-requires
+clear-interrupts-requires c κs = search needs
 
-both-requires-2 : tie.Need-both-requires-2
-both-requires-2 c κs = search needs
-
-done-requires : tie.Need-done-requires
-done-requires c κs = search needs
+build-requires : tie.Need-build-requires
+build-requires c κs = search needs
 
 returns : tie.Need-returns
-returns c = cc
+returns c =
+    let b = c .before in
+    c .build .ensures ∙ ap (λ (t : Status). done (withStatus (b .before .before .args .engine) t)) (b .clear-interrupts .ensures)
 
 pub write-status-spec : {M : Type 1} → statement M
-write-status-spec = tie.close (tie.spec both-requires both-requires-2 done-requires returns)
+write-status-spec = tie.close (tie.spec clear-interrupts-requires build-requires returns)

@@ -1,3 +1,5 @@
+use mathlib.Core.Path.{ap₂, _∙_}
+use Rattle.kit.specs.Choice.{either}
 use borrow.Author.Needs.{needs}
 use Rattle.state.proofs.engine.interrupt_line.Statement.{statement}
 use Rattle.state.proofs.engine.interrupt_line.Tie as tie
@@ -12,7 +14,7 @@ either-requires : tie.Need-either-requires
 either-requires c κs = search needs
 
 returns : tie.Need-returns
-returns c = cc
+returns c = c .either .ensures ∙ ap₂ either (c .before .before .both .ensures) (c .before .both2 .ensures)
 
 pub interrupt-line-spec : {M : Type 1} → statement M
 interrupt-line-spec = tie.close (tie.spec both-requires both-requires-2 either-requires returns)

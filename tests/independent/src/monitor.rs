@@ -56,19 +56,26 @@ fn only_if(so: bool, flags: u64) -> u64 {
     u64::from(so).wrapping_neg() & flags
 }
 
+/// The flags that each kind of burst can raise, of those that go by the burst.
+const BY_BURST: [u64; 4] = [1 << 42, 1 << 37, 1 << 38 | 1 << 43, 1 << 39];
+
+/// The cache values with bit 1 low and bit 2 or 3 high, a bit for each.
+const BAD_CACHE: u64 = 0x3330;
+
 /// Flags 37 to 44, of a clock out of reset with valid high.
 #[inline(always)]
 fn address_flags(width: u32, clock: &Clock) -> u64 {
     let word = 1 << clock.size;
     let beats = clock.length + 1;
-    // Reading: the last byte is reckoned without wrapping; so it is within the page.
+    // Reading: the last byte is reckoned without wrapping; here from the start of the page.
     let last = (clock.address & 0xfff & !(word - 1)) + beats * word - 1;
-    flag(37, (clock.burst == 1) & (last > 0xfff))
-        | flag(38, (clock.burst == 2) & (clock.address & (word - 1) != 0))
-        | flag(39, clock.burst == 3)
-        | flag(41, (clock.cache & 0b0010 == 0) & (clock.cache & 0b1100 != 0))
-        | flag(42, (clock.burst == 0) & (beats > 16))
-        | flag(43, (clock.burst == 2) & !matches!(beats, 2 | 4 | 8 | 16))
+    let by_burst = flag(37, last > 0xfff)
+        | flag(38, clock.address & (word - 1) != 0)
+        | flag(39, true)
+        | flag(42, beats > 16)
+        | flag(43, !matches!(beats, 2 | 4 | 8 | 16));
+    by_burst & BY_BURST[clock.burst as usize & 3]
+        | (BAD_CACHE >> clock.cache & 1) << 41
         | flag(44, word > width)
 }
 

@@ -11,6 +11,9 @@ use Rattle.kit.proofs.Choice.{decide}
 use Rattle.cut.specs.Cut.{page, wordStart, endFrom, reach, burstEnd, bytesWithin, burstBytes}
 use Rattle.cut.specs.Legal.{Legal}
 
+min-assoc : (x y z : ℕ) → min (min x y) z ≡ min x (min y z)
+min-assoc x y z = omega arith
+
 min-less : (x y a : ℕ) → min x y - a ≡ min (x - a) (y - a)
 min-less x y a = omega arith
 
@@ -32,7 +35,8 @@ module _ (w l : ℕ) where
       let p : page - a % page ≡ P - a = omega arith in
       let q : w * l - a % w ≡ Q - a = omega (arith, span a, div-add-mod' a w) in
       let r : n ≡ a + n - a = omega arith in
-      ap₂ min (ap₂ min p q ∙ sym (min-less P Q a)) r ∙ sym (min-less (min P Q) (a + n) a)
+      ap₂ min p (ap₂ min q r) ∙ sym (min-assoc (P - a) (Q - a) (a + n - a))
+      ∙ ap (λ (k : ℕ). min k (a + n - a)) (sym (min-less P Q a)) ∙ sym (min-less (min P Q) (a + n) a)
 
   module _ (pw : 0 < w) where
     div-mono : {a b : ℕ} → a ≤ b → a / w ≤ b / w

@@ -1,4 +1,4 @@
--- Document 01, "Cutting a transfer": each burst reaches as far as is legal or to the end of the transfer.
+-- RULES.md, "Cutting a transfer": each burst reaches as far as is legal or to the end of the transfer.
 use Prim.Native.Nat.{ℕ, zero, suc, _+_, _-_, _*_, _/_, _%_, min}
 use mathlib.Core.Bool.{true, false}
 use mathlib.Core.List.{List, [], _∷_}
@@ -30,7 +30,7 @@ burstBytes w l a n = burstEnd w l a (a + n) - a
 
 -- the least of: what is left of a's page, `words` bytes, and the n bytes to go
 abbrev pub bytesWithin : ℕ → ℕ → ℕ → ℕ
-bytesWithin words a n = min (min (page - a % page) words) n
+bytesWithin words a n = min (page - a % page) (min words n)
 
 -- the burst from a up to, not including, b
 abbrev pub burst : ℕ → ℕ → Burst

@@ -1,4 +1,4 @@
--- Document 01, "Cutting a transfer": which bursts are legal; what it is to cover bytes once, rising; and that no list
+-- RULES.md, "Cutting a transfer": which bursts are legal; what it is to cover bytes once, rising; and that no list
 -- of legal bursts that covers the same bytes is shorter.
 use Prim.Native.Nat.{ℕ, _+_, _-_, _/_, _≤_, _<_}
 use mathlib.Core.Path.{_≡_}

@@ -1,4 +1,4 @@
-// Document 01, "Cutting a transfer": where the burst that starts at a byte ends.
+// RULES.md, "Cutting a transfer": where the burst that starts at a byte ends.
 ghost use mathlib.Core.Path.{_≡_};
 ghost use Prim.Native.Nat.{_+_, _-_, _*_, _/_, _%_, _<_, _≤_, _^_, min};
 ghost use Rattle.cut.specs.Cut.{page, wordStart, endFrom, burstEnd, bytesWithin, burstBytes};
@@ -89,11 +89,12 @@ pub fn words_left(width: u32, beats: u32, at: u64) -> u64
     span(width, beats) - word_offset(width, at)
 }
 
-// The least of: what is left of the page of `at`, `words` bytes, and what is left of the transfer.
+// The least of: what is left of the page of `at`, `words` bytes, and what is left of the transfer. In this order the
+// last two are compared while the first is being made.
 pub fn bytes_within(words: u64, at: u64, left: u32) -> u32
     ensures { λ r. ⌜ r ≡ bytesWithin words at left ⌝ }
 {
-    least(least(PAGE - at % PAGE, words), left as u64) as u32
+    least(PAGE - at % PAGE, least(words, left as u64)) as u32
 }
 
 // The bytes of the first burst of a transfer that has `left` bytes to go from `at`.

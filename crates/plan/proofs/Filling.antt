@@ -1,6 +1,6 @@
 -- What the two loops that write bursts share: `code` says how bursts are written, in `size` elements each.
 use mathlib.Core.Path.{_≡_, refl, sym, ap, _∙_}
-use Prim.Native.Nat.{ℕ, _+_, _-_, _*_, _%_, _≤_}
+use Prim.Native.Nat.{ℕ, _+_, _-_, _*_, _%_, _≤_, _^_}
 use mathlib.Core.List.{List, [], _∷_}
 use lib.ListN.{length, set}
 use lib.Seq.{sets}
@@ -18,14 +18,14 @@ little bursts = littleOf (placesOf bursts)
 
 module _ (code : List Burst → List ℕ) (size w l start count most : ℕ) (lent : List ℕ) where
   -- part of the bursts are written, there is room for the others, and to write these as well gives the result
-  pub record Filling (places : List ℕ) (words done place : ℕ) : Type 0 where
-    pub walk : Walk w l start count most words done
+  pub record Filling (places : List ℕ) (words at left place : ℕ) : Type 0 where
+    pub walk : Walk w l (start + count) most words at left
     pub kept : length places ≡ length lent
-    pub room : place + size * length (rest w l start count done) ≤ length places
-    pub whole : sets places place (code (rest w l start count done)) ≡ sets lent 0 (code (cut w l start (start + count)))
+    pub room : place + size * length (rest w l (start + count) left) ≤ length places
+    pub whole : sets places place (code (rest w l (start + count) left)) ≡ sets lent 0 (code (cut w l start (start + count)))
 
   pub fill-begins : {words : ℕ} → most ≡ w * l → words ≡ w * l - start % w → size * length (cut w l start (start + count)) ≤ length lent
-      → Filling lent words 0 0
+      → Filling lent words start count 0
   fill-begins e f room = record {
     walk = set-out w l start count e f;
     kept = refl;
@@ -33,23 +33,23 @@ module _ (code : List Burst → List ℕ) (size w l start count most : ℕ) (len
     whole = ap (λ (bs : List Burst). sets lent 0 (code bs)) (rest-all w l start count);
   }
 
-  pub fill-goes-on : {places : List ℕ} {words done place : ℕ} {b : Burst} → Filling places words done place → Turn w l start count most done b
-      → (next : List ℕ) → length next ≡ length places
+  pub fill-goes-on : {places : List ℕ} {words at left place : ℕ} {b : Burst} → Filling places words at left place → Turn w l (start + count) most at left b
+      → {then : ℕ} → then ≡ (at + b .bytes) % 2 ^ 32 → (next : List ℕ) → length next ≡ length places
       → ((more : List Burst) → sets next (place + size) (code more) ≡ sets places place (code (b ∷ more)))
-      → Filling next most (done + b .bytes) (place + size)
-  fill-goes-on {places} {done = done} {place} {b} f t next same stored =
-      let left = rest w l start count (done + b .bytes) in
+      → Filling next most then (left - b .bytes) (place + size)
+  fill-goes-on {places} {left = left} {place} {b} f t {then} goes next same stored =
+      let more = rest w l (start + count) (left - b .bytes) in
       record {
-        walk = t .walk;
+        walk = t .walk then goes;
         kept = same ∙ f .kept;
-        room = omega (arith, f .room, same, ap (λ (k : ℕ). size * k) (t .counted), mul-suc size (length left));
-        whole = stored left ∙ ap (λ (bs : List Burst). sets places place (code bs)) (sym (t .first)) ∙ f .whole;
+        room = omega (arith, f .room, same, ap (λ (k : ℕ). size * k) (t .counted), mul-suc size (length more));
+        whole = stored more ∙ ap (λ (bs : List Burst). sets places place (code bs)) (sym (t .first)) ∙ f .whole;
       }
 
-  pub fill-ends : {places : List ℕ} {words done place : ℕ} → Filling places words done place → count ≤ done → code [] ≡ []
+  pub fill-ends : {places : List ℕ} {words at left place : ℕ} → Filling places words at left place → left ≤ 0 → code [] ≡ []
       → places ≡ sets lent 0 (code (cut w l start (start + count)))
-  fill-ends {places} {done = done} {place} f h nil =
-      ap (sets places place) (sym nil) ∙ ap (λ (bs : List Burst). sets places place (code bs)) (sym (rest-none w l start count done h)) ∙ f .whole
+  fill-ends {places} {left = left} {place} f h nil =
+      ap (sets places place) (sym nil) ∙ ap (λ (bs : List Burst). sets places place (code bs)) (sym (rest-none w l (start + count) left h)) ∙ f .whole
 
 -- a burst stored, and then the others, are all of them stored
 pub places-stored : (m : List ℕ) (i : ℕ) (b : Burst) (more : List Burst)

@@ -1,10 +1,10 @@
 -- What the loops over a transfer's bursts share: how far they are, and what one turn does.
-use mathlib.Core.Path.{_≡_, sym, ap, _∙_}
-use Prim.Native.Nat.{ℕ, suc, _+_, _-_, _*_, _%_, _≤_, _<_}
+use mathlib.Core.Path.{_≡_, refl, sym, ap, _∙_}
+use Prim.Native.Nat.{ℕ, suc, _+_, _-_, _*_, _%_, _≤_, _<_, _^_}
 use mathlib.Core.Bool.{true}
 use mathlib.Core.List.{List, [], _∷_}
 use lib.ListN.{length}
-use native.Mathlib.Nat.{add-zero}
+use native.Mathlib.Nat.{mod-eq-of-lt, lt-of-lt-of-le, sub-zero}
 use native.Mathlib.Omega.{arith}
 use Rattle.kit.specs.Settings.{legalSettings}
 use Rattle.kit.proofs.Legal.{legal}
@@ -13,67 +13,98 @@ use Rattle.cut.specs.Cut.{burstEnd, bytesWithin, burst, cut}
 use Rattle.cut.proofs.Reach.{burst-bytes, end-aligned, ends}
 use Rattle.cut.proofs.Cutting.{cut-stop, cut-step, cut-ind}
 
--- the walk over a transfer is past its first `done` bytes; the next burst may have `words` bytes, and a later one `most`
-pub record Walk (w l start count most words done : ℕ) : Type 0 where
+-- the walk over a transfer that stops at `end` has `left` bytes to go from `at`; the next burst may have `words` bytes, and
+-- a later one `most`
+pub record Walk (w l end most words at left : ℕ) : Type 0 where
   pub whole : most ≡ w * l
-  pub within : done ≤ count
-  pub reach : done < count → words ≡ w * l - (start + done) % w
+  pub within : left ≤ end
+  pub place : 0 < left → at + left ≡ end
+  pub reach : 0 < left → words ≡ w * l - at % w
 
 -- the bursts that are left
-abbrev pub rest : ℕ → ℕ → ℕ → ℕ → ℕ → List Burst
-rest w l start count done = cut w l (start + done) (start + count)
+abbrev pub rest : ℕ → ℕ → ℕ → ℕ → List Burst
+rest w l end left = cut w l (end - left) end
 
 -- one turn: the burst is the first of those that are left, and the walk goes on after it, at a word's start
-pub record Turn (w l start count most done : ℕ) (b : Burst) : Type 0 where
+pub record Turn (w l end most at left : ℕ) (b : Burst) : Type 0 where
   pub some : 0 < b .bytes
-  pub walk : Walk w l start count most most (done + b .bytes)
-  pub first : rest w l start count done ≡ b ∷ rest w l start count (done + b .bytes)
-  pub counted : length (rest w l start count done) ≡ suc (length (rest w l start count (done + b .bytes)))
+  pub fewer : b .bytes ≤ left
+  pub walk : (next : ℕ) → next ≡ (at + b .bytes) % 2 ^ 32 → Walk w l end most most next (left - b .bytes)
+  pub first : rest w l end left ≡ b ∷ rest w l end (left - b .bytes)
+  pub counted : length (rest w l end left) ≡ suc (length (rest w l end (left - b .bytes)))
 
 module _ (w l start count : ℕ) where
-  pub rest-all : rest w l start count 0 ≡ cut w l start (start + count)
-  rest-all = ap (λ (a : ℕ). cut w l a (start + count)) (add-zero start)
+  pub rest-all : rest w l (start + count) count ≡ cut w l start (start + count)
+  rest-all = ap (λ (a : ℕ). cut w l a (start + count)) (omega arith)
 
-  pub rest-none : (done : ℕ) → count ≤ done → rest w l start count done ≡ []
-  rest-none done h = cut-stop w l (start + done) (start + count) (omega arith)
+  pub set-out : {most words : ℕ} → most ≡ w * l → words ≡ w * l - start % w → Walk w l (start + count) most words start count
+  set-out e f = record { whole = e; within = omega arith; place = λ _. refl; reach = λ _. f }
 
-  pub set-out : {most words : ℕ} → most ≡ w * l → words ≡ w * l - start % w → Walk w l start count most words 0
-  set-out e f = record { whole = e; within = omega arith; reach = λ _. f ∙ ap (λ (a : ℕ). w * l - a % w) (sym (add-zero start)) }
+-- the numbers of a turn that takes n bytes from `at` to `stop`
+record Numbers (at left end stop n : ℕ) : Type 0 where
+  some : 0 < n
+  fewer : n ≤ left
+  from : end - left ≡ at
+  there : stop ≡ end - (left - n)
+  within : left - n ≤ end
+  place : stop + (left - n) ≡ end
+  short : 0 < left - n → stop < end
+  sum : at + n ≡ stop
+
+numbers : (at left end stop n : ℕ) → at + left ≡ end → at < stop → stop ≤ end → n ≡ stop - at → Numbers at left end stop n
+numbers at left end stop n here past most e = record {
+  some = omega arith;
+  fewer = omega arith;
+  from = omega arith;
+  there = omega arith;
+  within = omega arith;
+  place = omega arith;
+  short = λ i. omega arith;
+  sum = omega arith;
+}
+
+module _ (w l end : ℕ) where
+  pub rest-none : (left : ℕ) → left ≤ 0 → rest w l end left ≡ []
+  rest-none left h = cut-stop w l (end - left) end (omega arith)
 
   module _ (e : legalSettings w l ≡ true) where
     -- there are no more bursts than bytes
-    pub rest-count : (done : ℕ) → length (rest w l start count done) ≤ count - done
-    rest-count done =
+    pub rest-count : (left : ℕ) → left ≤ end → length (rest w l end left) ≤ left
+    rest-count left h =
         let g = legal w l e in
-        let p : length (rest w l start count done) ≤ start + count - (start + done) =
-        cut-ind w l (g .width-positive) (g .beats-positive) (start + count) (λ x bs. length bs ≤ start + count - x) (λ x h. omega arith)
-        (λ x h below. let p = ends w l (g .width-positive) (g .beats-positive) x (start + count) h in omega arith) (start + done) in
+        let p : length (rest w l end left) ≤ end - (end - left) =
+        cut-ind w l (g .width-positive) (g .beats-positive) end (λ x bs. length bs ≤ end - x) (λ x h. omega arith)
+        (λ x h below. let p = ends w l (g .width-positive) (g .beats-positive) x end h in omega arith) (end - left) in
         omega arith
 
-    pub turn : {most words done : ℕ} → Walk w l start count most words done → done < count
-        → (b : Burst) → (b .start ≡ start + done) × (b .bytes ≡ bytesWithin words (start + done) (count - done)) → Turn w l start count most done b
-    turn {most} {words} {done} walk h b (s, n) =
+    pub turn : {most words at left : ℕ} → end ≤ 2 ^ 32 → Walk w l end most words at left → 0 < left
+        → (b : Burst) → (b .start ≡ at) × (b .bytes ≡ bytesWithin words at left) → Turn w l end most at left b
+    turn {most} {words} {at} {left} below walk h b (s, n) =
         let g = legal w l e in
-        let a = start + done in
-        let stop = burstEnd w l a (start + count) in
-        let p = ends w l (g .width-positive) (g .beats-positive) a (start + count) (omega arith) in
-        let bytes : b .bytes ≡ stop - a =
-        n ∙ ap (λ (k : ℕ). bytesWithin k a (count - done)) (walk .reach h) ∙ burst-bytes w l a (count - done)
-        ∙ ap (λ (k : ℕ). burstEnd w l a k - a) (omega arith) in
-        let there : stop ≡ start + (done + b .bytes) = omega arith in
-        let first : rest w l start count done ≡ b ∷ rest w l start count (done + b .bytes) =
-        cut-step w l (g .width-positive) (g .beats-positive) a (start + count) (omega arith)
-        ∙ ap (λ (k : ℕ). burst a stop ∷ cut w l k (start + count)) there
-        ∙ ap (λ (x : Burst). x ∷ rest w l start count (done + b .bytes)) (λ i. record { start = sym s i; bytes = sym bytes i }) in
+        let here = walk .place h in
+        let stop = burstEnd w l at end in
+        let p = ends w l (g .width-positive) (g .beats-positive) at end (omega arith) in
+        let bytes : b .bytes ≡ stop - at =
+        n ∙ ap (λ (k : ℕ). bytesWithin k at left) (walk .reach h) ∙ burst-bytes w l at left ∙ ap (λ (k : ℕ). burstEnd w l at k - at) here in
+        let k = numbers at left end stop (b .bytes) here (p .past) (p .within) bytes in
+        let first : rest w l end left ≡ b ∷ rest w l end (left - b .bytes) =
+        ap (λ (a : ℕ). cut w l a end) (k .from) ∙ cut-step w l (g .width-positive) (g .beats-positive) at end (lt-of-lt-of-le (p .past) (p .within))
+        ∙ ap (λ (x : ℕ). burst at stop ∷ cut w l x end) (k .there)
+        ∙ ap (λ (x : Burst). x ∷ rest w l end (left - b .bytes)) (λ i. record { start = sym s i; bytes = sym bytes i }) in
+        -- while bytes are left the address does not wrap
+        let goes : (next : ℕ) → next ≡ (at + b .bytes) % 2 ^ 32 → 0 < left - b .bytes → next ≡ stop =
+        λ next f i. f ∙ ap (λ (x : ℕ). x % 2 ^ 32) (k .sum) ∙ mod-eq-of-lt (lt-of-lt-of-le (k .short i) below) in
         record {
-          some = omega arith;
-          walk = record {
+          some = k .some;
+          fewer = k .fewer;
+          walk = λ next f. record {
             whole = walk .whole;
-            within = omega arith;
+            within = k .within;
+            place = λ i. ap (λ (x : ℕ). x + (left - b .bytes)) (goes next f i) ∙ k .place;
             reach = λ i.
-                let word : (start + (done + b .bytes)) % w ≡ 0 =
-                ap (λ (k : ℕ). k % w) (sym there) ∙ end-aligned w l (g .width-positive) (g .width-pages) a (start + count) (omega arith) in
-                walk .whole ∙ omega arith;
+                let word : next % w ≡ 0 =
+                ap (λ (x : ℕ). x % w) (goes next f i) ∙ end-aligned w l (g .width-positive) (g .width-pages) at end (k .short i) in
+                walk .whole ∙ sym (ap (λ (x : ℕ). w * l - x) word ∙ sub-zero (w * l));
           };
           first = first;
           counted = ap length first;

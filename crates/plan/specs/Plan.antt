@@ -1,4 +1,4 @@
--- Document 01, "Cutting a transfer": what a plan answers and writes.
+-- RULES.md, "Cutting a transfer": what a plan answers and writes.
 use Prim.Native.Nat.{ℕ, _+_, _*_, _/_}
 use mathlib.Core.Bool.{Bool}
 use mathlib.Core.List.{List, [], _∷_, _++_}

@@ -1,8 +1,9 @@
 // The bursts of a transfer written to a lent slice that has room for them.
-use crate::walk::burst_after;
+use crate::walk::burst_at;
 use cut::span;
 use cut::words_left;
 use kit::word::store;
+use std::num::wrapping_add_u32;
 ghost use mathlib.Core.Path.{_≡_};
 ghost use mathlib.Core.Bool.{true};
 ghost use Prim.Native.Nat.{_+_, _*_, _≤_};
@@ -23,14 +24,16 @@ pub fn places(width: u32, beats: u32, start: u32, count: u32, places: &mut [u32]
 {
     let most = span(width, beats);
     let mut words = words_left(width, beats, start as u64);
-    let mut done: u32 = 0;
+    let mut at = start;
+    let mut left = count;
     let mut place = 0;
-    while done < count {
-        let burst = burst_after(words, start, count, done);
+    while 0 < left {
+        let burst = burst_at(words, at, left);
         places[place] = burst.start;
         places[place + 1] = burst.bytes;
         place += 2;
-        done += burst.bytes;
+        at = wrapping_add_u32(at, burst.bytes);
+        left -= burst.bytes;
         words = most;
     }
 }
@@ -52,13 +55,15 @@ pub fn bytes(width: u32, beats: u32, start: u32, count: u32, places: &mut [u8])
 {
     let most = span(width, beats);
     let mut words = words_left(width, beats, start as u64);
-    let mut done: u32 = 0;
+    let mut at = start;
+    let mut left = count;
     let mut place = 0;
-    while done < count {
-        let burst = burst_after(words, start, count, done);
+    while 0 < left {
+        let burst = burst_at(words, at, left);
         store_burst(places, place, burst.start, burst.bytes);
         place += 8;
-        done += burst.bytes;
+        at = wrapping_add_u32(at, burst.bytes);
+        left -= burst.bytes;
         words = most;
     }
 }

@@ -1,4 +1,4 @@
-// Document 01, "Cutting a transfer": the plan of a transfer in a lent slice of numbers, or of bytes.
+// RULES.md, "Cutting a transfer": the plan of a transfer in a lent slice of numbers, or of bytes.
 mod fill;
 pub mod measure;
 mod walk;

@@ -1,5 +1,5 @@
 // Whether a transfer can be planned, and its number of bursts.
-use crate::walk::burst_after;
+use crate::walk::burst_at;
 use cut::span;
 use cut::words_left;
 use kit::answer::Answer;
@@ -7,6 +7,7 @@ use kit::limits::ADDRESS_END;
 use kit::limits::MOST_BYTES;
 use kit::settings::Settings;
 use kit::settings::legal;
+use std::num::wrapping_add_u32;
 ghost use mathlib.Core.Path.{_≡_};
 ghost use mathlib.Core.Bool.{true};
 ghost use Prim.Native.Nat.{_+_, _≤_};
@@ -23,7 +24,7 @@ pub struct Planned {
 }
 
 // The number of bursts of a transfer. After the first burst each starts at a word, so only the first asks for a
-// division.
+// division. The start of the next burst wraps if there is none: a transfer may end with the addresses.
 fn count_bursts(width: u32, beats: u32, start: u32, count: u32) -> u32
     requires { ⌜ legalSettings width beats ≡ true ⌝ }
     requires { ⌜ start + count ≤ addressEnd ⌝ }
@@ -31,11 +32,13 @@ fn count_bursts(width: u32, beats: u32, start: u32, count: u32) -> u32
 {
     let most = span(width, beats);
     let mut words = words_left(width, beats, start as u64);
-    let mut done: u32 = 0;
+    let mut at = start;
+    let mut left = count;
     let mut bursts: u32 = 0;
-    while done < count {
-        let burst = burst_after(words, start, count, done);
-        done += burst.bytes;
+    while 0 < left {
+        let burst = burst_at(words, at, left);
+        at = wrapping_add_u32(at, burst.bytes);
+        left -= burst.bytes;
         words = most;
         bursts += 1;
     }

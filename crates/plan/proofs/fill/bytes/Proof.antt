@@ -1,5 +1,5 @@
 use mathlib.Core.Path.{refl, ap, _∙_}
-use Prim.Native.Nat.{ℕ, _+_, _-_}
+use Prim.Native.Nat.{ℕ, _+_}
 use native.Mathlib.Omega.{arith}
 use mathlib.Core.List.{List}
 use lib.Seq.{sets}
@@ -12,19 +12,19 @@ use Rattle.plan.proofs.fill.bytes.Statement.{statement}
 use Rattle.plan.proofs.fill.bytes.Tie as tie
 
 abbrev Inv-loop : tie.InvT-loop
-Inv-loop width beats start count places₀ most words₀ done₀ place₀ places words done place =
-    Filling little 8 width beats start count most places₀ places words done place
+Inv-loop width beats start count places₀ most words₀ at₀ left₀ place₀ places words at left place =
+    Filling little 8 width beats start count most places₀ places words at left place
 
 abbrev μ-loop : tie.MeasureT-loop
-μ-loop width beats start count places₀ most words₀ done₀ place₀ places words done place = count - done
+μ-loop width beats start count places₀ most words₀ at₀ left₀ place₀ places words at left place = left
 
 -- the turn that a burst is taken in
-turn-at : (c : tie.After-burst-after Inv-loop μ-loop)
+turn-at : (c : tie.After-burst-at Inv-loop μ-loop)
     → let a = c .before .before .before .before .before .before .args in
-    Turn (a .width) (a .beats) (a .start) (a .count) (c .before .before .before .before .span .result) (c .before .before .loop .done) (c .burst-after .result)
+    Turn (a .width) (a .beats) (a .start + a .count) (c .before .before .before .before .span .result) (c .before .before .loop .at) (c .before .before .loop .left) (c .burst-at .result)
 turn-at c =
     let f = c .before .before .before .before .before .before in
-    turn (f .args .width) (f .args .beats) (f .args .start) (f .args .count) (f .pre .0) (c .before .before .loop .inv .walk) (c .before .loop-test .taken) (c .burst-after .result) (c .burst-after .ensures)
+    turn (f .args .width) (f .args .beats) (f .args .start + f .args .count) (f .pre .0) (f .pre .1 .0) (c .before .before .loop .inv .walk) (c .before .loop-test .taken) (c .burst-at .result) (c .burst-at .ensures)
 
 words-left-requires : tie.Need-words-left-requires Inv-loop μ-loop
 words-left-requires c κs =
@@ -39,13 +39,13 @@ loop-holds c =
 
 loop-again : tie.Need-loop-again Inv-loop μ-loop
 loop-again c =
-    let d = c .before .before .before .before .before in
+    let d = c .before .before .before .before .before .before in
     let f = d .before .before .before .before .before .before in
     let v = d .before .before .loop in
-    let b = d .burst-after .result in
-    let s = c .before .before .before .store-burst in
+    let b = d .burst-at .result in
+    let s = c .before .before .before .before .store-burst in
     fill-goes-on little 8 (f .args .width) (f .args .beats) (f .args .start) (f .args .count) (d .before .before .before .before .span .result) (now (f .args .places))
-    (v .inv) (turn-at d) (s .last .0) (s .kept .0)
+    (v .inv) (turn-at d) (c .before .wrapping-add-u32 .ensures) (s .last .0) (s .kept .0)
     (λ more. ap (λ (m : List ℕ). sets m (v .place + 8) (little more)) (s .ensures) ∙ little-stored (v .places) (v .place) b more)
 
 returns : tie.Need-returns Inv-loop μ-loop
@@ -62,11 +62,12 @@ bytes-spec =
     (λ c κs. search needs)
     words-left-requires
     loop-holds
-    (λ c κs. (c .loop-test .taken, c .before .before .before .before .before .pre .1 .0))
+    (λ c κs. search needs)
     (λ c κs. let t = turn-at (c .before) in omega arith)
     (λ c. let t = turn-at (c .before .before .before .before) in omega arith)
-    (λ c. let t = turn-at (c .before .before .before .before .before) in omega arith)
-    (λ c. let t = turn-at (c .before .before .before .before .before) in omega arith)
+    (λ c κs. search needs)
+    (λ c. let t = turn-at (c .before .before .before .before .before .before) in omega arith)
+    (λ c. let t = turn-at (c .before .before .before .before .before .before) in omega arith)
     loop-again
     (λ c. c .before .loop .inv .kept)
     returns)

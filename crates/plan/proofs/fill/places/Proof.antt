@@ -1,5 +1,5 @@
 use mathlib.Core.Path.{refl}
-use Prim.Native.Nat.{_-_}
+use Prim.Native.Nat.{_+_}
 use native.Mathlib.Omega.{arith}
 use lib.ListN.{length-set}
 use denote.Ref.{now}
@@ -12,19 +12,19 @@ use Rattle.plan.proofs.fill.places.Statement.{statement}
 use Rattle.plan.proofs.fill.places.Tie as tie
 
 abbrev Inv-loop : tie.InvT-loop
-Inv-loop width beats start count places₀ most words₀ done₀ place₀ places words done place =
-    Filling placesOf 2 width beats start count most places₀ places words done place
+Inv-loop width beats start count places₀ most words₀ at₀ left₀ place₀ places words at left place =
+    Filling placesOf 2 width beats start count most places₀ places words at left place
 
 abbrev μ-loop : tie.MeasureT-loop
-μ-loop width beats start count places₀ most words₀ done₀ place₀ places words done place = count - done
+μ-loop width beats start count places₀ most words₀ at₀ left₀ place₀ places words at left place = left
 
 -- the turn that a burst is taken in
-turn-at : (c : tie.After-burst-after Inv-loop μ-loop)
+turn-at : (c : tie.After-burst-at Inv-loop μ-loop)
     → let a = c .before .before .before .before .before .before .args in
-    Turn (a .width) (a .beats) (a .start) (a .count) (c .before .before .before .before .span .result) (c .before .before .loop .done) (c .burst-after .result)
+    Turn (a .width) (a .beats) (a .start + a .count) (c .before .before .before .before .span .result) (c .before .before .loop .at) (c .before .before .loop .left) (c .burst-at .result)
 turn-at c =
     let f = c .before .before .before .before .before .before in
-    turn (f .args .width) (f .args .beats) (f .args .start) (f .args .count) (f .pre .0) (c .before .before .loop .inv .walk) (c .before .loop-test .taken) (c .burst-after .result) (c .burst-after .ensures)
+    turn (f .args .width) (f .args .beats) (f .args .start + f .args .count) (f .pre .0) (f .pre .1 .0) (c .before .before .loop .inv .walk) (c .before .loop-test .taken) (c .burst-at .result) (c .burst-at .ensures)
 
 words-left-requires : tie.Need-words-left-requires Inv-loop μ-loop
 words-left-requires c κs =
@@ -39,10 +39,11 @@ loop-holds c =
 
 loop-again : tie.Need-loop-again Inv-loop μ-loop
 loop-again c =
-    let f = c .before .before .before .before .before .before .before in
-    let v = c .before .before .before .loop in
-    fill-goes-on placesOf 2 (f .args .width) (f .args .beats) (f .args .start) (f .args .count) (c .before .before .before .before .before .span .result) (now (f .args .places))
-    (v .inv) (turn-at (c .before)) _ (simp length-set) (places-stored (v .places) (v .place) (c .before .burst-after .result))
+    let d = c .before .before in
+    let f = d .before .before .before .before .before .before in
+    let v = d .before .before .loop in
+    fill-goes-on placesOf 2 (f .args .width) (f .args .beats) (f .args .start) (f .args .count) (d .before .before .before .before .span .result) (now (f .args .places))
+    (v .inv) (turn-at d) (c .before .wrapping-add-u32 .ensures) _ (simp length-set) (places-stored (v .places) (v .place) (d .burst-at .result))
 
 returns : tie.Need-returns Inv-loop μ-loop
 returns c =
@@ -58,15 +59,16 @@ places-spec =
     (λ c κs. search needs)
     words-left-requires
     loop-holds
-    (λ c κs. (c .loop-test .taken, c .before .before .before .before .before .pre .1 .0))
+    (λ c κs. search needs)
     (λ c. let t = turn-at c in omega arith)
     (λ c. let t = turn-at c in omega arith)
     (λ c. let t = turn-at c in omega arith)
     (λ c. let t = turn-at c in omega arith)
     (λ c. let t = turn-at c in simp length-set (omega arith))
     (λ c. let t = turn-at c in omega arith)
-    (λ c. let t = turn-at (c .before) in omega arith)
-    (λ c. let t = turn-at (c .before) in omega arith)
+    (λ c κs. search needs)
+    (λ c. let t = turn-at (c .before .before) in omega arith)
+    (λ c. let t = turn-at (c .before .before) in omega arith)
     loop-again
     (λ c. c .before .loop .inv .kept)
     returns)

@@ -8,7 +8,7 @@ use mathlib.Core.Logic.{_⊎_, inl, inr}
 use lib.Dec.{leb}
 use borrow.Author.Tests.{leb-true, leb-false}
 use Rattle.kit.proofs.Choice.{decide}
-use Rattle.cut.specs.Cut.{page, wordStart, endFrom, reach, burstEnd, bytesWithin, burstBytes}
+use Rattle.cut.specs.Cut.{page, reach, burstEnd, bytesWithin, burstBytes}
 use Rattle.cut.specs.Legal.{Legal}
 
 min-assoc : (x y z : ℕ) → min (min x y) z ≡ min x (min y z)
@@ -19,12 +19,8 @@ min-less x y a = omega arith
 
 module _ (w l : ℕ) where
   -- the word limit, reckoned from the start of a's word
-  pub span : (a : ℕ) → (a / w + l) * w ≡ wordStart w a + w * l
+  span : (a : ℕ) → (a / w + l) * w ≡ a / w * w + w * l
   span a = add-mul (a / w) l w ∙ ap (λ (k : ℕ). a / w * w + k) (mul-comm l w)
-
-  pub burst-end-from : (a e : ℕ) → endFrom (wordStart w a) (w * l) a e ≡ burstEnd w l a e
-  unfolding burstEnd reach
-  burst-end-from a e = ap (λ (k : ℕ). min (min ((a / page + 1) * page) k) e) (sym (span a))
 
   -- a burst's end, as a length
   pub burst-bytes : (a n : ℕ) → bytesWithin (w * l - a % w) a n ≡ burstBytes w l a n
@@ -55,7 +51,7 @@ module _ (w l : ℕ) where
         let inside : (b - 1) / w < a / w + l = omega (arith, legal .words) in
         omega (arith, legal .some, legal .samePage, div-lt-iff-lt-mul pw .0 inside)
 
-    whole : (n : ℕ) → n % w ≡ 0 → n ≡ wordStart w n
+    whole : (n : ℕ) → n % w ≡ 0 → n ≡ n / w * w
     whole n d = omega (arith, div-add-mod' n w)
 
     -- if pages hold whole words, a burst that stops short of the transfer's end stops at the start of a word

@@ -8,14 +8,6 @@ use Rattle.cut.specs.declared.Burst.{Burst}
 abbrev pub page : ℕ
 page = 4096
 
--- the start of the aligned word of w bytes that holds byte a
-abbrev pub wordStart : ℕ → ℕ → ℕ
-wordStart w a = a / w * w
-
--- the nearest of: the end of a's page, `span` bytes after the start of its word, the end of the transfer
-abbrev pub endFrom : ℕ → ℕ → ℕ → ℕ → ℕ
-endFrom word span a e = min (min ((a / page + 1) * page) (word + span)) e
-
 -- as far as a legal burst from a can reach (specs/Legal.antt says why it is the farthest)
 unfoldable pub reach : ℕ → ℕ → ℕ → ℕ
 reach w l a = min ((a / page + 1) * page) ((a / w + l) * w)
@@ -42,6 +34,6 @@ cutWithin zero w l a e = []
 cutWithin (suc k) w l a e =
     elim (ltb a e) [ true ↦ burst a (burstEnd w l a e) ∷ cutWithin k w l (burstEnd w l a e) e | false ↦ [] ]
 
--- the cut of the bytes from a up to e; each burst has a byte at least, so that e - a bursts are enough
+-- the cut of the bytes from a up to e; each burst has a byte at least, so e - a bursts are enough
 unfoldable pub cut : ℕ → ℕ → ℕ → ℕ → List Burst
 cut w l a e = cutWithin (e - a) w l a e

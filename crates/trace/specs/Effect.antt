@@ -5,6 +5,8 @@ use lib.ListN.{length, take, drop, set}
 use lib.Seq.{sets}
 use lib.Dec.{eqb, leb, ltb}
 use Rattle.kit.specs.Choice.{when}
+use Rattle.kit.specs.declared.answer.Answer.the-variants as answers
+use Rattle.kit.specs.Answer.{numberOf}
 use Rattle.kit.specs.Limits.{mostWindows}
 use Rattle.kit.specs.Settings.{legalSettings}
 use Rattle.state.specs.declared.engine.Engine.{Engine}
@@ -62,20 +64,20 @@ settingsOf s sequence width beats position =
       session = withEngine s sequence (freshOf (record { width = width; beats = beats }));
       line = record { sequence = sequence; word = Set; first = width; second = beats };
     })
-    (badOf s 1 position)
+    (badOf s (numberOf answers.Settings) position)
 
--- MM: memory address length; bytes past the program's memory: 12
+-- MM: memory address length; bytes past the program's memory are refused
 abbrev pub memoryOf : Session → ℕ → ℕ → ℕ → ℕ → List ℕ → ℕ → List ℕ → Effected
 memoryOf s sequence address count position input from m =
-    when (ltb (length m) (address + count)) (effected (badOf s 12 position) m)
+    when (ltb (length m) (address + count)) (effected (badOf s (numberOf answers.MemoryEnd) position) m)
     (effected
     (record { session = withSequence s sequence; line = record { sequence = sequence; word = Memory; first = address; second = count } })
     (sets m address (take count (drop from input))))
 
--- SW: window start length; a seventeenth: 6
+-- SW: window start length; a seventeenth is refused
 abbrev pub windowOf : Session → ℕ → ℕ → ℕ → ℕ → List ℕ → Effected
 windowOf s sequence start count position windows =
-    when (leb mostWindows (s .windows)) (effected (badOf s 6 position) windows)
+    when (leb mostWindows (s .windows)) (effected (badOf s (numberOf answers.WindowCount) position) windows)
     (effected
     (record {
       session = record { engine = s .engine; monitor = s .monitor; sequence = sequence; windows = s .windows + 1; mode = s .mode };
@@ -102,11 +104,11 @@ readOf s sequence offset =
           (record { sequence = sequence; word = NoRead; first = offset; second = v .answer });
     }
 
--- AR: bus count lowest-flag; bits other than 0, 1 and 2: 13
+-- AR: bus count lowest-flag; bits other than 0, 1 and 2 are refused
 abbrev pub clockOf : Session → ℕ → ℕ → Clock → ℕ → Effect
 clockOf s sequence bits clock position =
     let c = bus.busClockOf (s .monitor) (s .engine .settings .width) (s .engine .settings .beats) clock in
-    when (ltb 7 bits) (badOf s 13 position)
+    when (ltb 7 bits) (badOf s (numberOf answers.Clock) position)
     (when (eqb (c .number) 0)
     (record {
       session = record { engine = s .engine; monitor = c .monitor; sequence = sequence; windows = s .windows; mode = s .mode };

@@ -4,6 +4,8 @@ use mathlib.Core.List.{List}
 use lib.ListN.{length}
 use lib.Dec.{eqb, leb}
 use Rattle.kit.specs.Choice.{when}
+use Rattle.kit.specs.declared.answer.Answer.the-variants as answers
+use Rattle.kit.specs.Answer.{numberOf}
 use Rattle.record.specs.declared.reading.Body.{Body}
 use Rattle.record.specs.declared.reading.Body.the-variants.{Settings, Memory, Window, Write, Read, Steps, Clock}
 use Rattle.record.specs.declared.reading.Reading.{Reading}
@@ -64,11 +66,11 @@ pub record Turn : Type 0 where
 abbrev pub turnAs : Applied → ℕ → Turn
 turnAs a at = record { session = a .effect .session; line = a .effect .line; at = at; memory = a .memory; windows = a .windows }
 
--- a record by what reading gave: none is answer 10, a sequence number not above the last one 11, then the record's own
+-- a record by what reading gave: none, or a sequence number not above the last one, is refused; then the record's own
 abbrev pub recordBy : Session → ℕ → List ℕ → ℕ → List ℕ → List ℕ → Reading → Turn
-recordBy s position input at m w Refused = turnAs (applied (badOf s 10 position) m w) at
+recordBy s position input at m w Refused = turnAs (applied (badOf s (numberOf answers.Record) position) m w) at
 recordBy s position input at m w (Found r next) =
-    when (leb (r .sequence) (s .sequence)) (turnAs (applied (badOf s 11 position) m w) at)
+    when (leb (r .sequence) (s .sequence)) (turnAs (applied (badOf s (numberOf answers.Sequence) position) m w) at)
     (turnAs (applyOf s (r .sequence) position input at m w (r .body)) next)
 
 -- the record at `at`, which is the trace's first where its position is 0

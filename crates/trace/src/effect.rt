@@ -2,6 +2,7 @@
 use crate::session::Effect;
 use crate::session::Mode;
 use crate::session::Session;
+use kit::answer::Answer;
 use kit::answer::number;
 use kit::limits::MOST_WINDOWS;
 use kit::settings::Settings;
@@ -16,16 +17,17 @@ use state::engine::fresh;
 ghost use mathlib.Core.Path.{_≡_};
 ghost use Prim.Native.Nat.{_+_, _≤_};
 ghost use lib.ListN.{length};
+ghost use Rattle.kit.specs.Answer.{numberOf};
 ghost use Rattle.trace.specs.Effect.{effected, badOf, settingsOf, memoryOf, windowOf, writeOf, readOf, clockOf};
 
 // The last good sequence number, the answer and the mark's position; the replay is over.
-pub fn bad(session: Session, answer: u32, position: u64) -> Effect
-    ensures { λ r. ⌜ r ≡ badOf session answer position ⌝ }
+pub fn bad(session: Session, answer: Answer, position: u64) -> Effect
+    ensures { λ r. ⌜ r ≡ badOf session (numberOf answer) position ⌝ }
 {
     let line = Line {
         sequence: session.sequence,
         word: Word::Bad,
-        first: answer as u64,
+        first: number(answer) as u64,
         second: position,
     };
     let session = Session {
@@ -39,7 +41,7 @@ pub fn settings(session: Session, sequence: u32, width: u32, beats: u32, positio
     ensures { λ r. ⌜ r ≡ settingsOf session sequence width beats position ⌝ }
 {
     if !legal(Settings { width, beats }) {
-        return bad(session, 1, position);
+        return bad(session, Answer::Settings, position);
     }
     let engine = fresh(Settings { width, beats });
     let line = Line {
@@ -73,7 +75,7 @@ pub fn memory(
     let start = address as usize;
     let end = start + count as usize;
     if memory.len() < end {
-        return bad(session, 12, position);
+        return bad(session, Answer::MemoryEnd, position);
     }
     let from_end = from + count as usize;
     bytes::copy(&input[from..from_end], &mut memory[start..end]);
@@ -103,7 +105,7 @@ pub fn window(
 {
     let used = session.windows as usize;
     if MOST_WINDOWS <= used {
-        return bad(session, 6, position);
+        return bad(session, Answer::WindowCount, position);
     }
     windows[2 * used] = start;
     windows[2 * used + 1] = count;
@@ -113,9 +115,10 @@ pub fn window(
         first: start as u64,
         second: count as u64,
     };
+    let more = session.windows + 1;
     let session = Session {
         sequence,
-        windows: session.windows + 1,
+        windows: more,
         ..session
     };
     Effect { session, line }
@@ -178,22 +181,23 @@ pub fn clock(session: Session, sequence: u32, bits: u32, clock: Clock, position:
     ensures { λ r. ⌜ r ≡ clockOf session sequence bits clock position ⌝ }
 {
     if 7 < bits {
-        return bad(session, 13, position);
+        return bad(session, Answer::Clock, position);
     }
     let monitor = session.monitor;
     let settings = session.engine.settings;
     let clocked = bus_clock(monitor, settings.width, settings.beats, clock);
     let answer = clocked.answer;
-    let answer = number(answer);
-    if answer != 0 {
+    if number(answer) != 0 {
         return bad(session, answer, position);
     }
     let monitor = clocked.monitor;
+    let count = clocked.count as u64;
+    let lowest = monitor.lowest() as u64;
     let line = Line {
         sequence,
         word: Word::Bus,
-        first: clocked.count as u64,
-        second: monitor.lowest() as u64,
+        first: count,
+        second: lowest,
     };
     let session = Session {
         monitor,

@@ -4,6 +4,7 @@ use crate::session::Effect;
 use crate::session::Mode;
 use crate::session::Session;
 use crate::stepping::stepping;
+use kit::answer::Answer;
 use listing::line::Line;
 use record::read;
 use record::reading::Body;
@@ -82,7 +83,7 @@ fn onward(effect: Effect, at: usize) -> Turned
     Turned { session, line, at }
 }
 
-// A record that is no record (10) or out of sequence (11) is the last line.
+// A record that is no record, or out of sequence, is the last line.
 fn record_turn(
     session: Session,
     position: u64,
@@ -96,10 +97,10 @@ fn record_turn(
 {
     let reading = read(input, at, position == 0);
     let Reading::Found { record, next } = reading else {
-        return onward(effect::bad(session, 10, position), at);
+        return onward(effect::bad(session, Answer::Record, position), at);
     };
     if record.sequence <= session.sequence {
-        return onward(effect::bad(session, 11, position), at);
+        return onward(effect::bad(session, Answer::Sequence, position), at);
     }
     let body = record.body;
     let effect = apply(

@@ -10,6 +10,8 @@ use lib.Seq.{sets, drop-append-add, drop-append-le, take-append-le}
 use lib.Dec.{eqb, leb, ltb}
 use borrow.Author.Tests.{leb-true}
 use Rattle.kit.specs.Choice.{when}
+use Rattle.kit.specs.declared.answer.Answer.the-variants as answers
+use Rattle.kit.specs.Answer.{numberOf}
 use Rattle.kit.proofs.Choice.{never}
 use Rattle.record.specs.declared.reading.Body.{Body}
 use Rattle.record.specs.declared.reading.Body.the-variants.{Settings, Memory, Window, Write, Read, Steps, Clock}
@@ -76,7 +78,7 @@ module _ (before part after : List ℕ) where
     stored : ℕ → ℕ → ℕ → List ℕ → Applied
     stored n address count bytes =
         onMemory
-        (when (ltb (length m) (address + count)) (effected (badOf s 12 position) m)
+        (when (ltb (length m) (address + count)) (effected (badOf s (numberOf answers.MemoryEnd) position) m)
         (effected (record { session = withSequence s n; line = record { sequence = n; word = words.Memory; first = address; second = count } })
         (sets m address bytes)))
         w
@@ -100,10 +102,10 @@ module _ (before part after : List ℕ) where
     record-part at (Found r n) e = go (leb (r .sequence) (s .sequence))
       where
         go : (t : Bool)
-            → when t (turnAs (applied (badOf s 11 position) m w) (length before + at))
+            → when t (turnAs (applied (badOf s (numberOf answers.Sequence) position) m w) (length before + at))
             (turnAs (applyOf s (r .sequence) position (before ++ (part ++ after)) (length before + at) m w (r .body)) (length before + n))
             ≡ later (length before)
-            (when t (turnAs (applied (badOf s 11 position) m w) at) (turnAs (applyOf s (r .sequence) position part at m w (r .body)) n))
+            (when t (turnAs (applied (badOf s (numberOf answers.Sequence) position) m w) at) (turnAs (applyOf s (r .sequence) position part at m w (r .body)) n))
         go true = refl
         go false = ap (λ (a : Applied). turnAs a (length before + n)) (apply-part (r .sequence) at (r .body) (data-fits part at (eqb position 0) r n e))
 

@@ -29,17 +29,17 @@ returns-2 : tie.Need-returns-2
 returns-2 c =
     let a = c .before .before .before .before .before .before .before .args in
     let seen = c .before .before .before .bus-clock .ensures in
-    let n = c .before .before .number .ensures ∙ ap (λ (v : Seen). v .number) seen in
-    no _ (le-ltb _ _ (c .before .before .before .before .before .before .if1 .left)) (no _ (ne-eqb _ 0 (λ z. c .before .if2 .taken (n ∙ z))) (c .bad2 .ensures ∙ ap (λ (k : ℕ). badOf (a .session) k (a .position)) n))
+    let n = ap (λ (v : Seen). v .number) seen in
+    no _ (le-ltb _ _ (c .before .before .before .before .before .before .if1 .left)) (no _ (ne-eqb _ 0 (λ z. c .before .if2 .taken (c .before .before .number .ensures ∙ n ∙ z))) (c .bad2 .ensures ∙ ap (λ (k : ℕ). badOf (a .session) k (a .position)) n))
 
-cast-t16 : tie.Need-cast-t16
-cast-t16 c = search needs
+cast-count : tie.Need-cast-count
+cast-count c = search needs
 
 lowest-requires : tie.Need-lowest-requires
 lowest-requires c κs = search needs
 
-cast-t18 : tie.Need-cast-t18
-cast-t18 c = search needs
+cast-lowest : tie.Need-cast-lowest
+cast-lowest c = search needs
 
 returns-3 : tie.Need-returns-3
 returns-3 c =
@@ -60,7 +60,7 @@ clock-spec =
     number-requires
     bad-requires-2
     returns-2
-    cast-t16
+    cast-count
     lowest-requires
-    cast-t18
+    cast-lowest
     returns-3)

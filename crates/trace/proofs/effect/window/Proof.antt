@@ -40,8 +40,8 @@ mul-windows-4 c = search needs
 slice-write-windows-2 : tie.Need-slice-write-windows-2
 slice-write-windows-2 c = simp length-set (omega arith)
 
-add-t19 : tie.Need-add-t19
-add-t19 c = search needs
+add-more : tie.Need-add-more
+add-more c = search needs
 
 same-length : tie.Need-same-length
 same-length c = search needs
@@ -63,6 +63,6 @@ window-spec =
     add-windows
     mul-windows-4
     slice-write-windows-2
-    add-t19
+    add-more
     same-length
     returns-2)

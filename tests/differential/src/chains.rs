@@ -178,7 +178,7 @@ fn one(maker: &mut Maker, place: u32, next: u32, damage: Damage) -> Vec<u8> {
     descriptor(next | low, source, destination, count | high, status, fill)
 }
 
-/// A descriptor at `place` that copies the next descriptor to where it will be fetched, so that
+/// A descriptor at `place` that copies the next descriptor to where it will be fetched, so
 /// what was moved decides what the chain does then.
 fn deliver(maker: &mut Maker, place: u32, next: u32, after: u32) {
     let cargo = one(maker, next, after, Damage::Nothing);
@@ -198,7 +198,7 @@ fn sick_status(maker: &mut Maker) {
         return;
     }
     let status = maker.replay.engine.current + 0x1c;
-    // Over one end of the word alone, so that the other bytes can still be seen: an update that
+    // Over one end of the word alone, so the other bytes can still be seen: an update that
     // fails leaves them as they were.
     let (start, length) = maker.random.pick(&[
         (status, 1),
@@ -216,7 +216,7 @@ fn sick_status(maker: &mut Maker) {
     peek(maker, status - 1);
 }
 
-/// Now and then fifteen windows that matter to nothing, so that the sixteenth decides.
+/// Now and then fifteen windows that matter to nothing, so the sixteenth decides.
 pub fn fill_windows(maker: &mut Maker) {
     if maker.random.chance(20) {
         while maker.replay.windows().len() + 1 < MOST_WINDOWS && !maker.ended {

@@ -99,7 +99,7 @@ fn clean(maker: &mut Maker) -> Bus {
     bus
 }
 
-/// Moves the address so that the last byte is in its page: as often as not the page's last.
+/// Moves the address so the last byte is in its page: as often as not the page's last.
 fn ends_in_page(random: &mut Random, bus: &mut Bus) {
     let most = (4096u32 >> bus.size).min(256);
     bus.length = random.below(most) as u8;

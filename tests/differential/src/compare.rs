@@ -127,7 +127,7 @@ fn feed(replay: &Path, trace: &[u8], at: u64) -> io::Result<Output> {
     })
 }
 
-/// An open file with the trace and no name, so that nothing is left behind.
+/// An open file with the trace and no name, so nothing is left behind.
 fn file(trace: &[u8], at: u64) -> io::Result<File> {
     let name = format!("differential-{}-{at}", std::process::id());
     let name = std::env::temp_dir().join(name);

@@ -173,7 +173,7 @@ impl Maker {
         }
     }
 
-    /// A count of a transfer, measured in bursts so that listings stay small.
+    /// A count of a transfer, measured in bursts so listings stay small.
     pub fn count(&mut self) -> u32 {
         let (unit, width) = (self.unit(), self.replay.engine.width);
         match self.random.below(100) {

@@ -196,7 +196,7 @@ fn failed(step: &Step, memo: &Memo, coverage: &mut Counts) {
     coverage.see_if(word, "copied word shown by a fault line");
 }
 
-/// Bytes of the first burst of what remains, reckoned in its page so that nothing passes 2^32.
+/// Bytes of the first burst of what remains, reckoned in its page so nothing passes 2^32.
 fn burst(engine: &Engine, to: u32, left: u32) -> u32 {
     let place = to % 4096;
     let reach = place - place % engine.width + engine.width * engine.beats;

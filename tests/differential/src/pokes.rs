@@ -183,7 +183,7 @@ pub fn run(maker: &mut Maker) {
     }
 }
 
-/// Brings the engine to idle in the wanted mode. Now and then it does not, so that the next
+/// Brings the engine to idle in the wanted mode. Now and then it does not, so the next
 /// accesses meet a busy engine or one in error.
 pub fn ready(maker: &mut Maker, chain: bool) {
     if maker.in_error() {

@@ -1,5 +1,5 @@
 // What is lent to a call: a stretch of cells with others on both sides. Two of them are equal only
-// where all cells are, so that a comparison after a call also finds what was written beside the
+// where all cells are, so a comparison after a call also finds what was written beside the
 // stretch.
 
 use std::ops::Range;
@@ -57,7 +57,7 @@ impl<T: Copy + PartialEq> Lent<T> {
         self.null_where_empty && self.stretch.is_empty()
     }
 
-    /// The pointer for a call. It may reach every cell, so that a write beside the stretch spoils
+    /// The pointer for a call. It may reach every cell, so a write beside the stretch spoils
     /// nothing but the margin.
     pub fn pointer(&mut self) -> *mut T {
         if self.is_null() {

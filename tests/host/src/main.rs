@@ -77,7 +77,7 @@ fn options(mut arguments: impl Iterator<Item = String>) -> Result<Options, Strin
 fn take_all(options: &Options, seed: u64) -> Outcome<Coverage> {
     let fixed = families::FIRST + options.cases;
     crew::take_all(fixed + options.fresh, Coverage::new, Coverage::add, |at, coverage| {
-        // Fresh cases are random ones too, so that they start where those do.
+        // Fresh cases are random ones too, so they start where those do.
         let (seed, index) =
             if at < fixed { (FIXED_SEED, at) } else { (seed, families::FIRST + at - fixed) };
         if options.tell {

@@ -1,4 +1,4 @@
-// Counts what a call on an engine did. The two sides agree by then, so that it looks at one of
+// Counts what a call on an engine did. The two sides agree by then, so it looks at one of
 // them.
 
 use independent::answer::settings_listed;

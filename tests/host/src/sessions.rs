@@ -1,4 +1,4 @@
-// Long sequences of calls on one engine, so that its states go deep: transfers and chains are
+// Long sequences of calls on one engine, so its states go deep: transfers and chains are
 // started and stepped, between them anything may be written, and memory and windows change as they
 // like. A calm session does so more seldom, and keeps its transfers within memory: else hardly a
 // chain would get past its first descriptors.

@@ -55,7 +55,7 @@ impl Stretch {
 
 /// The cut of a transfer: within its first page bursts end at multiples of `width * beats` counted
 /// from the first byte's word; every later page starts afresh, and `width * beats` divides it or
-/// covers it, so that they go on evenly from there.
+/// covers it, so they go on evenly from there.
 fn stretches(width: u32, beats: u32, start: u32, count: u32) -> [Stretch; 2] {
     let shift = (width * beats).min(PAGE).trailing_zeros();
     let here = count.min(PAGE - start % PAGE);

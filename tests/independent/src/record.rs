@@ -113,7 +113,7 @@ fn u32_at(bytes: &[u8], at: usize) -> u32 {
     u32::from_le_bytes([bytes[at], bytes[at + 1], bytes[at + 2], bytes[at + 3]])
 }
 
-/// What is done with a record that was read. It is a trait and no closure, so that each kind of
+/// What is done with a record that was read. It is a trait and no closure, so each kind of
 /// record is compiled together with what is done with it, and is never put together in between.
 pub(crate) trait Taker<'a> {
     type Given;

@@ -113,7 +113,7 @@ impl Replay {
 
     /// Carries out one record with its lines. An answer but 0 ends the replay; refused WR and RD
     /// print their own lines and are good records. The settings are listed and the engine is well
-    /// formed here at all times, so that accesses and clocks are not refused for these.
+    /// formed here at all times, so accesses and clocks are not refused for these.
     #[inline(always)]
     pub fn carry_out<To: Write>(
         &mut self,

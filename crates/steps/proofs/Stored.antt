@@ -13,13 +13,13 @@ use Rattle.steps.specs.Claims.{Bytes}
 pub word-fits : (m : List ℕ) → Bytes m → (at : ℕ) → wordAt m at < addressEnd
 word-fits m bytes at = omega (arith, bytes at, bytes (at + 1), bytes (at + 2), bytes (at + 3))
 
-take-bytes : (n : ℕ) (l : List ℕ) → Bytes l → Bytes (take n l)
+pub take-bytes : (n : ℕ) (l : List ℕ) → Bytes l → Bytes (take n l)
 take-bytes zero l h i = omega arith
 take-bytes (suc n) [] h i = omega arith
 take-bytes (suc n) (x ∷ l) h zero = h 0
 take-bytes (suc n) (x ∷ l) h (suc i) = take-bytes n l (λ k. h (suc k)) i
 
-drop-bytes : (n : ℕ) (l : List ℕ) → Bytes l → Bytes (drop n l)
+pub drop-bytes : (n : ℕ) (l : List ℕ) → Bytes l → Bytes (drop n l)
 drop-bytes n l h i = subst (λ (v : ℕ). v < 256) (sym (getD-drop n l i 0)) (h (n + i))
 
 set-bytes : (l : List ℕ) (i v : ℕ) → Bytes l → v < 256 → Bytes (set l i v)

@@ -19,9 +19,10 @@ use Rattle.state.proofs.WellFormed.{fresh-well-formed}
 use Rattle.registers.specs.Write as registers-written
 use Rattle.registers.proofs.Writes.{write-keeps-settings, write-keeps-words, write-keeps-well-formed}
 use Rattle.steps.specs.declared.event.Event.{Event}
-use Rattle.steps.specs.Step.{Next}
+use Rattle.steps.specs.Step.{AfterAdvance}
 use Rattle.steps.specs.Run.{AfterStep, stepOf, refusalOf}
-use Rattle.steps.proofs.Kept.{advance-settings, advance-simple, advance-length, advance-well-formed}
+use Rattle.steps.proofs.Keeps.{advance-keeps, advance-well-formed}
+use Rattle.steps.proofs.Stored.{take-bytes, drop-bytes, sets-bytes}
 use Rattle.monitor.specs.Monitor.{busClockOf}
 use Rattle.record.specs.declared.reading.Body.{Body}
 use Rattle.record.specs.declared.reading.Body.the-variants.{Settings, Memory, Window, Write, Read, Steps, Clock}
@@ -42,7 +43,7 @@ use Rattle.trace.specs.Pass.{readyOf, lineRoom, Replay, begin, turnOn, turnsOf,
 use Rattle.trace.proofs.Unique.{pass-unique}
 use Rattle.whole.specs.Listing.{startMemory, startWindows, Replays, begun, passed}
 use Rattle.whole.specs.Sound.{Sound, SoundIn, Sessions}
-use Rattle.whole.proofs.Bytes.{zero-bytes, take-bytes, drop-bytes, sets-bytes, advance-bytes}
+use Rattle.whole.proofs.Bytes.{zero-bytes}
 
 start : SoundIn startOf startMemory startWindows
 unfolding legalWidth legalBeats
@@ -84,20 +85,20 @@ module _ {e : Engine} {used : ℕ} {m w : List ℕ} (h : Sound e used m w) where
   step-sound : (windows : List ℕ) → StepSound (stepOf e m windows .engine) (stepOf e m windows .memory)
   unfolding stepOf
   step-sound windows =
-      cases (λ (x : Next). StepSound (x .engine) (x .memory)) (eqb (refusalOf e (length m) (length windows / 2)) 0)
+      cases (λ (x : AfterAdvance). StepSound (x .engine) (x .memory)) (eqb (refusalOf e (length m) (length windows / 2)) 0)
       (λ _. record {
         engine = record {
-          legal = ap legalOf (advance-settings e m (windowsOf windows)) ∙ h .legal;
+          legal = ap legalOf (advance-keeps e m (windowsOf windows) .settings) ∙ h .legal;
           well = advance-well-formed e m (windowsOf windows) (h .legal) (h .small) (h .bytes) (h .well);
-          source = omega (arith, ap {B = ℕ} (λ x. x .sa) (advance-simple e m (windowsOf windows)), h .source);
-          destination = omega (arith, ap {B = ℕ} (λ x. x .da) (advance-simple e m (windowsOf windows)), h .destination);
+          source = omega (arith, ap {B = ℕ} (λ x. x .sa) (advance-keeps e m (windowsOf windows) .simple), h .source);
+          destination = omega (arith, ap {B = ℕ} (λ x. x .da) (advance-keeps e m (windowsOf windows) .simple), h .destination);
           few = h .few;
           small = h .small;
           bytes = h .bytes;
           room = h .room;
         };
-        long = advance-length e m (windowsOf windows);
-        held = advance-bytes e m (windowsOf windows) (h .bytes);
+        long = advance-keeps e m (windowsOf windows) .length;
+        held = advance-keeps e m (windowsOf windows) .bytes (h .bytes);
       })
       (λ _. record { engine = h; long = refl; held = h .bytes })
 

@@ -41,27 +41,43 @@ pub fn verdict<const GROUPS: usize>(
     if starts.iter().any(|&start| u64::from(start) + u64::from(count) > length as u64) {
         return Verdict::Decode;
     }
-    // The groups are memory now, so a shared byte is a byte of memory inside a window. All windows
-    // are looked at without a branch: most steps are good, and none of them ends the search.
-    let mut sick = false;
-    for &window in windows {
-        for start in starts {
-            let meets = (window.0 <= start + (count - 1)) & (start <= last_of(window));
-            sick |= (window.1 != 0) & meets;
-        }
-    }
-    if sick {
+    // The groups are memory now, so a shared byte is a byte of memory inside a window.
+    if !windows.is_empty() && any_meets(windows, starts, count) {
         Verdict::Slave
     } else {
         Verdict::Okay
     }
 }
 
+/// Does a window share a byte with a group? All are looked at without a branch: most steps are
+/// good, and none of them ends the search. Apart from its callers, which mostly have no windows.
+#[inline(never)]
+fn any_meets<const GROUPS: usize>(windows: &[Window], starts: [u32; GROUPS], count: u32) -> bool {
+    let mut any = false;
+    for &window in windows {
+        for start in starts {
+            let meets = (window.0 <= start + (count - 1)) & (start <= last_of(window));
+            any |= (window.1 != 0) & meets;
+        }
+    }
+    any
+}
+
 /// How many of the `most` bytes from `start` on answer OKAY, up to the first that does not.
 #[inline]
 pub fn good_bytes(length: usize, windows: &[Window], start: u32, most: u32) -> u32 {
     let inside = (length as u64).saturating_sub(u64::from(start));
-    let mut good = inside.min(u64::from(most)) as u32;
+    let good = inside.min(u64::from(most)) as u32;
+    if windows.is_empty() {
+        good
+    } else {
+        good_before(windows, start, good)
+    }
+}
+
+/// How many of the `good` bytes from `start` on come before the first window over one of them.
+#[inline(never)]
+fn good_before(windows: &[Window], start: u32, mut good: u32) -> u32 {
     for &window in windows {
         if window.1 != 0 && start <= last_of(window) {
             good = good.min(window.0.saturating_sub(start));

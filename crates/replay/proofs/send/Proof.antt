@@ -4,17 +4,14 @@ use borrow.Author.Needs.{needs}
 use Rattle.replay.proofs.send.Statement.{statement}
 use Rattle.replay.proofs.send.Tie as tie
 
-returns : tie.Need-returns
-returns c = search needs
-
 slice-aggregate-write-all : tie.Need-slice-aggregate-write-all
-slice-aggregate-write-all c = sym (length-take-le (c .before .before .before .args .put) (c .before .before .before .args .out .now) (search needs))
+slice-aggregate-write-all c = sym (length-take-le (c .before .before .args .put) (c .before .before .args .out .now) (c .before .before .pre))
 
 write-all-requires : tie.Need-write-all-requires
 write-all-requires c κs = search needs
 
-returns-2 : tie.Need-returns-2
-returns-2 c = search needs
+returns : tie.Need-returns
+returns c = search needs
 
 pub send-spec : {M : Type 1} → statement M
-send-spec = tie.close (tie.spec returns slice-aggregate-write-all write-all-requires returns-2)
+send-spec = tie.close (tie.spec slice-aggregate-write-all write-all-requires returns)

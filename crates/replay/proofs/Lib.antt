@@ -1,0 +1,4 @@
+pub mod Pending
+pub mod Passes
+pub mod Progress
+pub mod Whole

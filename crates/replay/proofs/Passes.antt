@@ -1,0 +1,47 @@
+-- What a pass used and put.
+use mathlib.Core.Path.{_≡_, refl, sym, ap, subst, _∙_}
+use Prim.Native.Nat.{ℕ, zero, suc, _+_, _≤_, _<_}
+use mathlib.Core.Bool.{Bool, true, false}
+use mathlib.Core.List.{List}
+use native.Mathlib.Omega.{arith}
+use lib.ListN.{length, length-append}
+use Rattle.kit.proofs.Choice.{never}
+use Rattle.listing.specs.Line.{lineOf}
+use Rattle.listing.proofs.Lines.{line-some}
+use Rattle.trace.specs.declared.session.Session.{Session}
+use Rattle.trace.specs.declared.pass.Passed.{Passed}
+use Rattle.trace.specs.Turn.{turnOf}
+use Rattle.trace.specs.Pass.{Replay, begin, turnOn, turnsOf, goesOn, Passes}
+use Rattle.whole.proofs.Parts.{turns-within}
+
+module _ (size base : ℕ) (input : List ℕ) (ended : Bool) (q : Replay) where
+  none-taken : (n : ℕ) → ((k : ℕ) → k < n → goesOn size input ended (turnsOf k base input q) ≡ true) → goesOn size input ended q ≡ false → n ≡ 0
+  unfolding turnsOf
+  none-taken zero goes e = refl
+  none-taken (suc n) goes e = absurd (never (sym e ∙ goes 0 (omega arith)))
+
+  some-taken : (n : ℕ) → goesOn size input ended (turnsOf n base input q) ≡ false → goesOn size input ended q ≡ true
+      → 0 < length (turnsOf n base input q .text)
+  unfolding turnsOf turnOn
+  some-taken zero stop go = absurd (never (sym stop ∙ go))
+  some-taken (suc n) stop go =
+      let p = turnsOf n base input q in
+      let t = turnOf (p .session) (base + p .at) input (p .at) (p .memory) (p .windows) in
+      omega (arith, length-append (p .text) (lineOf (t .line)), line-some (t .line))
+
+module _ {s : Session} {base : ℕ} {input : List ℕ} {ended : Bool} {m w out : List ℕ} {r : Passed} {m′ w′ out′ : List ℕ}
+    (p : Passes s base input ended m w out r m′ w′ out′) where
+  pub pass-within : r .at ≤ length input
+  pass-within = subst (λ (x : Replay). x .at ≤ length input) (sym (p .ends)) (turns-within base input (begin s m w) (p .turns) (omega arith))
+
+  -- a pass that cannot take a turn leaves all as it was
+  pub pass-idle : goesOn (length out) input ended (begin s m w) ≡ false → (r .session ≡ s) × (r .at ≡ 0)
+  unfolding turnsOf
+  pass-idle e =
+      let same = p .ends ∙ ap (λ (n : ℕ). turnsOf n base input (begin s m w)) (none-taken (length out) base input ended (begin s m w) (p .turns) (p .goes) e) in
+      (ap (λ (x : Replay). x .session) same, ap (λ (x : Replay). x .at) same)
+
+  -- a pass that can take a turn puts a byte
+  pub pass-puts : goesOn (length out) input ended (begin s m w) ≡ true → 0 < r .put
+  pass-puts e =
+      omega (arith, p .put, ap (λ (x : Replay). length (x .text)) (p .ends), some-taken (length out) base input ended (begin s m w) (p .turns) (p .stops) e)

@@ -1,0 +1,3 @@
+pub mod Flow
+pub mod Turn
+pub mod Whole

@@ -22,8 +22,9 @@ ghost use Rattle.whole.specs.Listing.{startMemory, startWindows};
 ghost use Rattle.replay.specs.Turn.{Begins, Refills, Forwards, Flows};
 ghost use Rattle.replay.specs.Whole.{Reached};
 
-// A proved loop has a bound. Each turn reads or prints a byte, or is the last, or its read was interrupted (`Progress`), so
-// no trace that can be read in a year comes near it; and as a turn uses at most 65,536 bytes, positions stay below 2^63.
+// A proved loop has a bound. A turn reads or prints a byte, is the last, or had its read interrupted (`Progress`), so real
+// turns are bounded by the bytes. This bound is there so no sum can wrap: a turn uses at most 65,536 bytes, so positions
+// stay below 2^63. At ten million turns a second it lasts 160 days; if it is used up, the program says so.
 const MOST_TURNS: u64 = 140737488355328;
 
 fn main() {
@@ -44,7 +45,7 @@ fn main() {
 // Turns until the replay is over.
 fn run(memory: &mut [u8], windows: &mut [u32], buffer: &mut [u8], out: &mut [u8]) -> Flow
     requires { ⌜ (now memory ≡ startMemory) × (now windows ≡ startWindows) × (length (now buffer) ≡ room) × (length (now out) ≡ room) ⌝ }
-    ensures { λ r. ⌜ Reached r (now (buffer .exit)) (now (memory .exit)) (now (windows .exit)) ⌝ }
+    ensures { λ r. ⌜ Fits r (now (buffer .exit)) × Reached r (now (buffer .exit)) (now (memory .exit)) (now (windows .exit)) ⌝ }
 {
     let mut flow = begin(out);
     let mut turns = MOST_TURNS;

@@ -50,7 +50,7 @@ same-length-4 : tie.Need-same-length-4 Inv-loop μ-loop
 same-length-4 c = c .before .loop .inv .space ∙ sym (c .before .before .before .before .before .before .before .before .before .before .pre .3)
 
 returns : tie.Need-returns Inv-loop μ-loop
-returns c = c .before .loop .inv .reached
+returns c = (c .before .loop .inv .fits, c .before .loop .inv .reached)
 
 same-length-5 : tie.Need-same-length-5 Inv-loop μ-loop
 same-length-5 c = c .before .before .loop .inv .memory
@@ -65,7 +65,7 @@ same-length-8 : tie.Need-same-length-8 Inv-loop μ-loop
 same-length-8 c = c .before .before .loop .inv .space ∙ sym (c .before .before .before .before .before .before .before .before .before .before .before .pre .3)
 
 returns-2 : tie.Need-returns-2 Inv-loop μ-loop
-returns-2 c = c .before .before .loop .inv .reached
+returns-2 c = (c .before .before .loop .inv .fits, c .before .before .loop .inv .reached)
 
 pub run-spec : {M : Type 1} → statement M
 run-spec =

@@ -7,7 +7,6 @@ use mathlib.Core.Logic.{_⊎_, inl, inr}
 use lib.Dec.{eqb}
 use Rattle.kit.specs.Choice.{when}
 use Rattle.kit.proofs.Choice.{yes, no}
-use Rattle.kit.specs.declared.settings.Settings.{Settings}
 use Rattle.state.specs.declared.engine.Engine.{Engine}
 use Rattle.state.specs.declared.engine.ErrorBit.{ErrorBit}
 use Rattle.state.specs.declared.engine.ErrorBit.the-variants.{Clear, DmaIntErr, DmaSlvErr, DmaDecErr, SgIntErr, SgSlvErr, SgDecErr}
@@ -95,8 +94,3 @@ read-back w = go (sameWords w (wordsOf (engineFrom w))) refl
         → (wordsOf (when t (engineFrom w) (illFormedOf (settingsFrom w))) ≡ w) ⊎ (wellFormedOf (when t (engineFrom w) (illFormedOf (settingsFrom w))) ≡ false)
     go true e = inl (sym (same-equal w (wordsOf (engineFrom w)) e))
     go false e = inr refl
-
--- the words of a fresh engine: its width, its beats and zeros
-pub fresh-words : (settings : Settings)
-    → wordsOf (freshOf settings) ≡ settings .width ∷ settings .beats ∷ 0 ∷ 0 ∷ 0 ∷ 0 ∷ 0 ∷ 0 ∷ 0 ∷ 0 ∷ 0 ∷ 0 ∷ 0 ∷ 0 ∷ 0 ∷ 0 ∷ 0 ∷ 0 ∷ 0 ∷ 0 ∷ []
-fresh-words settings = refl

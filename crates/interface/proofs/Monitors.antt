@@ -92,9 +92,3 @@ module _ (w : List ℕ) (width beats : ℕ) (f : ClockForC) where
             judged
             (yes _ (eq-eqb (numberOf (q .answer)) 0 (sym told ∙ z))
             (λ i. clockedSeen (record { answer = z i; count = q .count; lowest = p i }) (s i)))
-
--- two results that one contract allows are equal, and so are the words they leave
-pub clock-unique : {r q : ClockedForC} {v w : List ℕ} {x : ClockedWords} → clockedSeen r v ≡ x → clockedSeen q w ≡ x → (r ≡ q) × (v ≡ w)
-clock-unique e f =
-    let same = e ∙ sym f in
-    (λ i. same i .told, λ i. same i .words)

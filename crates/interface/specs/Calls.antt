@@ -9,7 +9,7 @@ use Rattle.state.specs.State.{wellFormedOf, interruptLineOf}
 use Rattle.registers.specs.Read.{Value, gives, noValue, readOf}
 use Rattle.registers.specs.Write.{AfterWrite, writeOf}
 use Rattle.steps.specs.declared.event.Event.{Event}
-use Rattle.steps.specs.declared.event.Event.the-variants.{None, Fetch, Move, Fault, Update, Halt}
+use Rattle.steps.specs.Report.{reportOf}
 use Rattle.steps.specs.Run.{AfterStep, stepOf, AfterRun, runOf}
 use Rattle.interface.specs.declared.accesses.ValueForC.{ValueForC}
 use Rattle.interface.specs.declared.stepping.SteppedForC.{SteppedForC}
@@ -50,29 +50,21 @@ wordsAfterWrite r w = wordsSeen (r .answer) (wordsAfter (r .answer) (r .engine) 
 abbrev pub writeWordsOf : List ℕ → ℕ → ℕ → WordsAfterWrite
 writeWordsOf w offset value = wordsAfterWrite (writeOf (engineOf w) offset value) w
 
-abbrev pub of : ℕ → ℕ → ℕ → ℕ → SteppedForC
-of answer event first second = record { answer = answer; event = event; first = first; second = second }
+-- a step's answer, and what is told of its event
+abbrev pub stepReportOf : ℕ → Event → SteppedForC
+stepReportOf n e = record { answer = n; event = reportOf e .number; first = reportOf e .first; second = reportOf e .second }
 
--- an event's number, and the two numbers that a listing has for it
-abbrev pub told : ℕ → Event → SteppedForC
-told n None = of n 0 0 0
-told n (Fetch current) = of n 1 current 0
-told n (Move burst) = of n 2 (burst .start) (burst .bytes)
-told n (Fault destination bit) = of n 3 destination bit
-told n (Update current word) = of n 4 current word
-told n (Halt current bit) = of n 5 current bit
-
--- a step: what is told of it, the words and the memory
+-- a step: its report, the words and the memory
 pub record WordsAfterStep : Type 0 where
-  pub told : SteppedForC
+  pub report : SteppedForC
   pub words : List ℕ
   pub memory : List ℕ
 
 abbrev pub stepWordsSeen : SteppedForC → List ℕ → List ℕ → WordsAfterStep
-stepWordsSeen r w m = record { told = r; words = w; memory = m }
+stepWordsSeen r w m = record { report = r; words = w; memory = m }
 
 abbrev pub wordsAfterStep : AfterStep → List ℕ → WordsAfterStep
-wordsAfterStep r w = stepWordsSeen (told (r .answer) (r .event)) (wordsAfter (r .answer) (r .engine) w) (r .memory)
+wordsAfterStep r w = stepWordsSeen (stepReportOf (r .answer) (r .event)) (wordsAfter (r .answer) (r .engine) w) (r .memory)
 
 abbrev pub stepWordsOf : List ℕ → List ℕ → List ℕ → WordsAfterStep
 stepWordsOf w m windows = wordsAfterStep (stepOf (engineOf w) m windows) w

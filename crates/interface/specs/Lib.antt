@@ -3,3 +3,4 @@ pub mod EngineWords
 pub mod Calls
 pub mod MonitorWords
 pub mod Clocks
+pub mod Claims

@@ -3,10 +3,11 @@ use crate::engine_words::load;
 use crate::engine_words::store;
 use kit::answer::number;
 use steps::event::Event;
+use steps::report::report_of;
 use steps::run::run;
 use steps::run::step;
 ghost use mathlib.Core.Path.{_≡_};
-ghost use Rattle.interface.specs.Calls.{told as toldOf, stepWordsOf, stepWordsSeen, runWordsOf, runWordsSeen};
+ghost use Rattle.interface.specs.Calls.{stepReportOf, stepWordsOf, stepWordsSeen, runWordsOf, runWordsSeen};
 
 // An answer's number, the event's number and its two numbers, all 0 beside a refusal.
 #[repr(C)]
@@ -24,27 +25,16 @@ pub struct RanForC {
     pub steps: u32,
 }
 
-fn told(answer: u32, event: Event) -> SteppedForC
-    ensures { λ r. ⌜ r ≡ toldOf answer event ⌝ }
+// A step's answer, and what is told of its event.
+fn step_report(answer: u32, event: Event) -> SteppedForC
+    ensures { λ r. ⌜ r ≡ stepReportOf answer event ⌝ }
 {
-    match event {
-        Event::None => of(answer, 0, 0, 0),
-        Event::Fetch(current) => of(answer, 1, current, 0),
-        Event::Move(burst) => of(answer, 2, burst.start, burst.bytes),
-        Event::Fault { destination, bit } => of(answer, 3, destination, bit),
-        Event::Update { current, word } => of(answer, 4, current, word),
-        Event::Halt { current, bit } => of(answer, 5, current, bit),
-    }
-}
-
-fn of(answer: u32, event: u32, first: u32, second: u32) -> SteppedForC
-    ensures { λ r. ⌜ r ≡ record { answer = answer; event = event; first = first; second = second } ⌝ }
-{
+    let report = report_of(event);
     SteppedForC {
         answer,
-        event,
-        first,
-        second,
+        event: report.number,
+        first: report.first,
+        second: report.second,
     }
 }
 
@@ -60,12 +50,12 @@ pub extern "C" fn belikumba_step(
     let answer = stepped.answer;
     let answer = number(answer);
     let event = stepped.event;
-    let told = told(answer, event);
+    let report = step_report(answer, event);
     if answer == 0 {
         let engine = stepped.engine;
         store(engine, words);
     }
-    told
+    report
 }
 
 #[no_mangle]

@@ -1,4 +1,4 @@
-use Rattle.interface.proofs.CallResults.{read-told}
+use Rattle.interface.proofs.CallResults.{read-result}
 use Rattle.registers.specs.Read.{readOf}
 use Rattle.state.specs.declared.engine.Engine.{Engine}
 use mathlib.Core.Path.{ap, _∙_}
@@ -16,7 +16,7 @@ number-requires : tie.Need-number-requires
 number-requires c κs = search needs
 
 returns : tie.Need-returns
-returns c = read-told (c .before .read .result) (c .before .read .ensures ∙ ap (λ (s : Engine). readOf s (c .before .before .before .args .offset)) (c .before .before .load .ensures)) (c .number .ensures)
+returns c = read-result (c .before .read .result) (c .before .read .ensures ∙ ap (λ (s : Engine). readOf s (c .before .before .before .args .offset)) (c .before .before .load .ensures)) (c .number .ensures)
 
 pub belikumba-read-spec : {M : Type 1} → statement M
 belikumba-read-spec = tie.close (tie.spec load-requires read-requires number-requires returns)

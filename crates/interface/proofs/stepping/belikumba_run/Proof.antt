@@ -1,4 +1,4 @@
-use Rattle.interface.proofs.CallResults.{stored, unchanged, run-told}
+use Rattle.interface.proofs.CallResults.{stored, unchanged, run-result}
 use Rattle.steps.specs.Run.{runOf}
 use Rattle.state.specs.declared.engine.Engine.{Engine}
 use denote.Ref.{now}
@@ -27,7 +27,7 @@ returns c =
     let a = c .before .before .before .before .before .before .before .before .before .before .before .before .before .args in
     let r = c .before .before .before .before .before .before .before .run in
     let w = now (a .words) in
-    run-told (r .result) w (r .ensures ∙ ap (λ (s : Engine). runOf (a .most) s (now (a .memory)) (now (a .windows))) (c .before .before .before .before .before .before .before .before .before .load .ensures)) (c .before .before .before .before .number .ensures) (stored (r .result .engine) w (c .before .before .before .if1 .taken) (c .store .ensures))
+    run-result (r .result) w (r .ensures ∙ ap (λ (s : Engine). runOf (a .most) s (now (a .memory)) (now (a .windows))) (c .before .before .before .before .before .before .before .before .before .load .ensures)) (c .before .before .before .before .number .ensures) (stored (r .result .engine) w (c .before .before .before .if1 .taken) (c .store .ensures))
 
 same-length-2 : tie.Need-same-length-2
 same-length-2 c = search needs
@@ -37,7 +37,7 @@ returns-2 c =
     let a = c .before .before .before .before .before .before .before .before .before .before .args in
     let r = c .before .before .before .before .run in
     let w = now (a .words) in
-    run-told (r .result) w (r .ensures ∙ ap (λ (s : Engine). runOf (a .most) s (now (a .memory)) (now (a .windows))) (c .before .before .before .before .before .before .load .ensures)) (c .before .number .ensures) (unchanged (r .result .engine) w (c .if1 .left))
+    run-result (r .result) w (r .ensures ∙ ap (λ (s : Engine). runOf (a .most) s (now (a .memory)) (now (a .windows))) (c .before .before .before .before .before .before .load .ensures)) (c .before .number .ensures) (unchanged (r .result .engine) w (c .if1 .left))
 
 pub belikumba-run-spec : {M : Type 1} → statement M
 belikumba-run-spec =

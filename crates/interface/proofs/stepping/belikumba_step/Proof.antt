@@ -1,4 +1,4 @@
-use Rattle.interface.proofs.CallResults.{stored, unchanged, step-told}
+use Rattle.interface.proofs.CallResults.{stored, unchanged, step-result}
 use Rattle.steps.specs.Run.{stepOf}
 use Rattle.state.specs.declared.engine.Engine.{Engine}
 use denote.Ref.{now}
@@ -16,8 +16,8 @@ step-requires c κs = search needs
 number-requires : tie.Need-number-requires
 number-requires c κs = search needs
 
-told-requires : tie.Need-told-requires
-told-requires c κs = search needs
+step-report-requires : tie.Need-step-report-requires
+step-report-requires c κs = search needs
 
 store-requires : tie.Need-store-requires
 store-requires c κs = search needs
@@ -30,7 +30,7 @@ returns c =
     let a = c .before .before .before .before .before .before .before .before .before .before .before .before .before .before .args in
     let r = c .before .before .before .before .before .before .before .before .step in
     let w = now (a .words) in
-    step-told (r .result) w (r .ensures ∙ ap (λ (s : Engine). stepOf s (now (a .memory)) (now (a .windows))) (c .before .before .before .before .before .before .before .before .before .before .load .ensures)) (c .before .before .before .before .before .number .ensures) (c .before .before .before .before .told .ensures) (stored (r .result .engine) w (c .before .before .before .if1 .taken) (c .store .ensures))
+    step-result (r .result) w (r .ensures ∙ ap (λ (s : Engine). stepOf s (now (a .memory)) (now (a .windows))) (c .before .before .before .before .before .before .before .before .before .before .load .ensures)) (c .before .before .before .before .before .number .ensures) (c .before .before .before .before .step-report .ensures) (stored (r .result .engine) w (c .before .before .before .if1 .taken) (c .store .ensures))
 
 same-length-2 : tie.Need-same-length-2
 same-length-2 c = search needs
@@ -40,7 +40,7 @@ returns-2 c =
     let a = c .before .before .before .before .before .before .before .before .before .before .before .args in
     let r = c .before .before .before .before .before .step in
     let w = now (a .words) in
-    step-told (r .result) w (r .ensures ∙ ap (λ (s : Engine). stepOf s (now (a .memory)) (now (a .windows))) (c .before .before .before .before .before .before .before .load .ensures)) (c .before .before .number .ensures) (c .before .told .ensures) (unchanged (r .result .engine) w (c .if1 .left))
+    step-result (r .result) w (r .ensures ∙ ap (λ (s : Engine). stepOf s (now (a .memory)) (now (a .windows))) (c .before .before .before .before .before .before .before .load .ensures)) (c .before .before .number .ensures) (c .before .step-report .ensures) (unchanged (r .result .engine) w (c .if1 .left))
 
 pub belikumba-step-spec : {M : Type 1} → statement M
 belikumba-step-spec =
@@ -49,7 +49,7 @@ belikumba-step-spec =
     load-requires
     step-requires
     number-requires
-    told-requires
+    step-report-requires
     store-requires
     same-length
     returns

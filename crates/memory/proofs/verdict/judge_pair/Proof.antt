@@ -32,51 +32,18 @@ returns-3 c = pair-decode _ _ _ _ _ (omega arith) (inl (omega arith))
 returns-4 : tie.Need-returns-4 Inv-loop μ-loop
 returns-4 c = pair-decode _ _ _ _ _ (omega arith) (inr (omega arith))
 
-add-first-end : tie.Need-add-first-end Inv-loop μ-loop
-add-first-end c = search needs
-
-add-second-end : tie.Need-add-second-end Inv-loop μ-loop
-add-second-end c = search needs
-
 loop-holds : tie.Need-loop-holds Inv-loop μ-loop
 loop-holds c = (omega arith, refl, refl)
-
-add-loop : tie.Need-add-loop Inv-loop μ-loop
-add-loop c = search needs
-
-mul-t13 : tie.Need-mul-t13 Inv-loop μ-loop
-mul-t13 c = search needs
-
-shared-slice-read-t17 : tie.Need-shared-slice-read-t17 Inv-loop μ-loop
-shared-slice-read-t17 c = search needs
-
-add-t14 : tie.Need-add-t14 Inv-loop μ-loop
-add-t14 c = search needs
-
-mul-t18 : tie.Need-mul-t18 Inv-loop μ-loop
-mul-t18 c = search needs
-
-shared-slice-read-t20 : tie.Need-shared-slice-read-t20 Inv-loop μ-loop
-shared-slice-read-t20 c = search needs
-
-touches-requires : tie.Need-touches-requires Inv-loop μ-loop
-touches-requires c κs = search needs
 
 returns-5 : tie.Need-returns-5 Inv-loop μ-loop
 returns-5 c =
     pair-slave _ _ _ _ _ (omega arith) (omega arith) (omega arith)
     (inl (sym (c .before .before .before .before .before .loop .inv .1) ∙ hit-here _ _ _ _ (c .before .before .before .before .loop-test .taken) (sym (c .before .touches .ensures) ∙ c .if5 .taken)))
 
-touches-requires-2 : tie.Need-touches-requires-2 Inv-loop μ-loop
-touches-requires-2 c κs = search needs
-
 returns-6 : tie.Need-returns-6 Inv-loop μ-loop
 returns-6 c =
     pair-slave _ _ _ _ _ (omega arith) (omega arith) (omega arith)
     (inr (sym (c .before .before .before .before .before .before .before .loop .inv .2) ∙ hit-here _ _ _ _ (c .before .before .before .before .before .before .loop-test .taken) (sym (c .before .touches2 .ensures) ∙ c .if6 .taken)))
-
-add-i : tie.Need-add-i Inv-loop μ-loop
-add-i c = search needs
 
 loop-less : tie.Need-loop-less Inv-loop μ-loop
 loop-less c = omega arith
@@ -97,27 +64,7 @@ returns-7 c =
 pub judge-pair-spec : {M : Type 1} → statement M
 judge-pair-spec =
     tie.close
-    (tie.spec
-    Inv-loop
-    μ-loop
-    returns
-    returns-2
-    returns-3
-    returns-4
-    add-first-end
-    add-second-end
-    loop-holds
-    add-loop
-    mul-t13
-    shared-slice-read-t17
-    add-t14
-    mul-t18
-    shared-slice-read-t20
-    touches-requires
-    returns-5
-    touches-requires-2
-    returns-6
-    add-i
-    loop-less
-    loop-again
-    returns-7)
+    (tie.spec Inv-loop μ-loop returns returns-2 returns-3 returns-4 (λ c. search needs) (λ c. search needs) loop-holds
+    (λ c. search needs) (λ c. search needs) (λ c. search needs) (λ c. search needs) (λ c. search needs)
+    (λ c. search needs) (λ c κs. search needs) returns-5 (λ c κs. search needs) returns-6 (λ c. search needs)
+    loop-less loop-again returns-7)

@@ -6,15 +6,6 @@ use borrow.Author.Needs.{needs}
 use Rattle.memory.proofs.window.touches.Statement.{statement}
 use Rattle.memory.proofs.window.touches.Tie as tie
 
-cast-first : tie.Need-cast-first
-cast-first c = search needs
-
-cast-past : tie.Need-cast-past
-cast-past c = search needs
-
-add-past : tie.Need-add-past
-add-past c = search needs
-
 returns : tie.Need-returns
 returns c = yes _ (lt-ltb _ _ (c .before .before .if1 .taken)) (yes _ (lt-ltb _ _ (c .before .if2 .taken)) refl)
 
@@ -25,4 +16,6 @@ returns-3 : tie.Need-returns-3
 returns-3 c = no _ (le-ltb _ _ (c .if1 .left)) refl
 
 pub touches-spec : {M : Type 1} → statement M
-touches-spec = tie.close (tie.spec cast-first cast-past add-past returns returns-2 returns-3)
+touches-spec =
+    tie.close
+    (tie.spec (λ c. search needs) (λ c. search needs) (λ c. search needs) returns returns-2 returns-3)

@@ -10,25 +10,10 @@ use Rattle.steps.specs.Step.{advanceSeen, advanceBy, advanceOf}
 use Rattle.steps.proofs.advance.advance.Statement.{statement}
 use Rattle.steps.proofs.advance.advance.Tie as tie
 
-enum-told : tie.Need-enum-told
-enum-told c = search needs
-
-enum-told-2 : tie.Need-enum-told-2
-enum-told-2 c = search needs
-
-fetch-requires : tie.Need-fetch-requires
-fetch-requires c κs = search needs
-
-enum-known-phase : tie.Need-enum-known-phase
-enum-known-phase c = search needs
-
 move-burst-requires : tie.Need-move-burst-requires
 move-burst-requires c κs =
     let a = c .before .before .before .before .before .before .args in
     (c .before .before .before .before .before .before .pre .0, subst (λ (p : Phase). phaseFits p (a .engine .control .sgmode) ≡ true) (c .before .before .phase .given .1) (parts (a .engine) (c .before .before .before .before .before .before .pre .1) .phase))
-
-enum-known-phase-2 : tie.Need-enum-known-phase-2
-enum-known-phase-2 c = search needs
 
 update-requires : tie.Need-update-requires
 update-requires c κs = well-formed (c .before .before .before .before .before .before .args .engine) (c .before .before .before .before .before .before .pre .1) .current-aligned
@@ -40,9 +25,6 @@ returns c =
     let then = ap (advanceBy (a .engine) (now (a .memory)) (windowsOf (now (a .windows)))) (sym (c .enum-told .given .1)) in
     then
 
-same-length : tie.Need-same-length
-same-length c = search needs
-
 returns-2 : tie.Need-returns-2
 unfolding advanceOf
 returns-2 c =
@@ -50,18 +32,12 @@ returns-2 c =
     let then = ap (advanceBy (a .engine) (now (a .memory)) (windowsOf (now (a .windows)))) (sym (c .before .before .enum-told2 .given .1)) in
     ap (λ r. advanceSeen r (now (a .memory))) (c .fetch .ensures) ∙ then
 
-same-length-2 : tie.Need-same-length-2
-same-length-2 c = search needs
-
 returns-3 : tie.Need-returns-3
 unfolding advanceOf
 returns-3 c =
     let a = c .before .before .before .before .before .before .before .before .before .args in
     let then = ap (advanceBy (a .engine) (now (a .memory)) (windowsOf (now (a .windows)))) (sym (c .before .before .before .before .before .phase .given .1)) in
     c .before .before .move-burst .ensures ∙ then
-
-same-length-3 : tie.Need-same-length-3
-same-length-3 c = search needs
 
 returns-4 : tie.Need-returns-4
 unfolding advanceOf
@@ -73,18 +49,6 @@ returns-4 c =
 pub advance-spec : {M : Type 1} → statement M
 advance-spec =
     tie.close
-    (tie.spec
-    enum-told
-    enum-told-2
-    fetch-requires
-    enum-known-phase
-    move-burst-requires
-    enum-known-phase-2
-    update-requires
-    returns
-    same-length
-    returns-2
-    same-length-2
-    returns-3
-    same-length-3
-    returns-4)
+    (tie.spec (λ c. search needs) (λ c. search needs) (λ c κs. search needs) (λ c. search needs) move-burst-requires
+    (λ c. search needs) update-requires returns (λ c. search needs) returns-2 (λ c. search needs) returns-3
+    (λ c. search needs) returns-4)

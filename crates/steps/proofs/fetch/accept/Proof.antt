@@ -9,18 +9,9 @@ use borrow.Author.Needs.{needs}
 use Rattle.steps.proofs.fetch.accept.Statement.{statement}
 use Rattle.steps.proofs.fetch.accept.Tie as tie
 
-halt-requires : tie.Need-halt-requires
-halt-requires c κs = search needs
-
 returns : tie.Need-returns
 unfolding acceptOf
 returns c = yes _ (c .before .if1 .taken) (c .halt .ensures)
-
-start-transfer-requires : tie.Need-start-transfer-requires
-start-transfer-requires c κs = search needs
-
-phase-after-fetch-requires : tie.Need-phase-after-fetch-requires
-phase-after-fetch-requires c κs = search needs
 
 returns-2 : tie.Need-returns-2
 unfolding acceptOf
@@ -33,4 +24,4 @@ returns-2 c =
 pub accept-spec : {M : Type 1} → statement M
 accept-spec =
     tie.close
-    (tie.spec halt-requires returns start-transfer-requires phase-after-fetch-requires returns-2)
+    (tie.spec (λ c κs. search needs) returns (λ c κs. search needs) (λ c κs. search needs) returns-2)

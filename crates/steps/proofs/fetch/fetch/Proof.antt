@@ -7,35 +7,8 @@ use borrow.Author.Needs.{needs}
 use Rattle.steps.proofs.fetch.fetch.Statement.{statement}
 use Rattle.steps.proofs.fetch.fetch.Tie as tie
 
-cast-judge : tie.Need-cast-judge
-cast-judge c = search needs
-
-judge-requires : tie.Need-judge-requires
-judge-requires c κs = search needs
-
-enum-told : tie.Need-enum-told
-enum-told c = search needs
-
-cast-load-descriptor : tie.Need-cast-load-descriptor
-cast-load-descriptor c = search needs
-
 load-descriptor-requires : tie.Need-load-descriptor-requires
 load-descriptor-requires c κs = group-okay-fits _ _ _ _ (sym (c .before .before .judge .ensures) ∙ c .enum-told .given .1) (omega arith)
-
-accept-requires : tie.Need-accept-requires
-accept-requires c κs = search needs
-
-enum-told-2 : tie.Need-enum-told-2
-enum-told-2 c = search needs
-
-halt-requires : tie.Need-halt-requires
-halt-requires c κs = search needs
-
-enum-told-3 : tie.Need-enum-told-3
-enum-told-3 c = search needs
-
-halt-requires-2 : tie.Need-halt-requires-2
-halt-requires-2 c κs = search needs
 
 returns : tie.Need-returns
 returns c =
@@ -56,17 +29,6 @@ returns-3 c =
 pub fetch-spec : {M : Type 1} → statement M
 fetch-spec =
     tie.close
-    (tie.spec
-    cast-judge
-    judge-requires
-    enum-told
-    cast-load-descriptor
-    load-descriptor-requires
-    accept-requires
-    enum-told-2
-    halt-requires
-    enum-told-3
-    halt-requires-2
-    returns
-    returns-2
-    returns-3)
+    (tie.spec (λ c. search needs) (λ c κs. search needs) (λ c. search needs) (λ c. search needs)
+    load-descriptor-requires (λ c κs. search needs) (λ c. search needs) (λ c κs. search needs) (λ c. search needs)
+    (λ c κs. search needs) returns returns-2 returns-3)

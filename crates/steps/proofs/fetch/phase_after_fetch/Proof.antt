@@ -4,12 +4,6 @@ use borrow.Author.Needs.{needs}
 use Rattle.steps.proofs.fetch.phase_after_fetch.Statement.{statement}
 use Rattle.steps.proofs.fetch.phase_after_fetch.Tie as tie
 
-enum-known-start : tie.Need-enum-known-start
-enum-known-start c = search needs
-
-enum-told : tie.Need-enum-told
-enum-told c = search needs
-
 returns : tie.Need-returns
 returns c = ap phaseAfterFetchOf (sym (c .before .start .given .1))
 
@@ -17,4 +11,6 @@ returns-2 : tie.Need-returns-2
 returns-2 c = ap phaseAfterFetchOf (sym (c .enum-told .given .1))
 
 pub phase-after-fetch-spec : {M : Type 1} → statement M
-phase-after-fetch-spec = tie.close (tie.spec enum-known-start enum-told returns returns-2)
+phase-after-fetch-spec =
+    tie.close
+    (tie.spec (λ c. search needs) (λ c. search needs) returns returns-2)

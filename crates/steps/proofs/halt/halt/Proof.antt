@@ -7,14 +7,10 @@ use Rattle.steps.specs.declared.event.Advanced.{Advanced}
 use Rattle.steps.proofs.halt.halt.Statement.{statement}
 use Rattle.steps.proofs.halt.halt.Tie as tie
 
-bit-number-requires : tie.Need-bit-number-requires
-bit-number-requires c κs = search needs
-
-stop-on-error-requires : tie.Need-stop-on-error-requires
-stop-on-error-requires c κs = search needs
-
 returns : tie.Need-returns
 returns c = ap₂ {C = Advanced} (λ (n : ℕ) (s : Engine). record { event = Halt (c .before .before .args .engine .pointers .current) n; engine = s }) (c .before .bit-number .ensures) (c .stop-on-error .ensures)
 
 pub halt-spec : {M : Type 1} → statement M
-halt-spec = tie.close (tie.spec bit-number-requires stop-on-error-requires returns)
+halt-spec =
+    tie.close
+    (tie.spec (λ c κs. search needs) (λ c κs. search needs) returns)

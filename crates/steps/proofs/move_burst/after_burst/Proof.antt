@@ -6,16 +6,12 @@ use Rattle.steps.specs.declared.event.Advanced.{Advanced}
 use Rattle.steps.proofs.move_burst.after_burst.Statement.{statement}
 use Rattle.steps.proofs.move_burst.after_burst.Tie as tie
 
-add-continue-or-finish : tie.Need-add-continue-or-finish
-add-continue-or-finish c = search needs
-
-continue-or-finish-requires : tie.Need-continue-or-finish-requires
-continue-or-finish-requires c κs = search needs
-
 returns : tie.Need-returns
 returns c =
     let a = c .before .before .args in
     ap {B = Advanced} (λ (s : Engine). record { event = Move (record { start = a .start; bytes = a .bytes }); engine = s }) (c .continue-or-finish .ensures)
 
 pub after-burst-spec : {M : Type 1} → statement M
-after-burst-spec = tie.close (tie.spec add-continue-or-finish continue-or-finish-requires returns)
+after-burst-spec =
+    tie.close
+    (tie.spec (λ c. search needs) (λ c κs. search needs) returns)

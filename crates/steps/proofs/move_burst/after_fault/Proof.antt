@@ -8,16 +8,10 @@ use Rattle.steps.specs.declared.event.Advanced.{Advanced}
 use Rattle.steps.proofs.move_burst.after_fault.Statement.{statement}
 use Rattle.steps.proofs.move_burst.after_fault.Tie as tie
 
-bit-number-requires : tie.Need-bit-number-requires
-bit-number-requires c κs = search needs
-
 returns : tie.Need-returns
 returns c =
     let a = c .before .before .before .before .before .before .before .args in
     ap₂ {C = Advanced} (λ (n : ℕ) (s : Engine). record { event = Fault (a .destination) n; engine = s }) (c .before .before .before .before .before .before .bit-number .ensures) (yes _ (c .before .before .before .before .before .if1 .taken) refl)
-
-stop-on-error-requires : tie.Need-stop-on-error-requires
-stop-on-error-requires c κs = search needs
 
 returns-2 : tie.Need-returns-2
 returns-2 c =
@@ -25,4 +19,6 @@ returns-2 c =
     ap₂ {C = Advanced} (λ (n : ℕ) (s : Engine). record { event = Fault (a .destination) n; engine = s }) (c .before .before .bit-number .ensures) (no _ (c .before .if1 .left) (c .stop-on-error .ensures))
 
 pub after-fault-spec : {M : Type 1} → statement M
-after-fault-spec = tie.close (tie.spec bit-number-requires returns stop-on-error-requires returns-2)
+after-fault-spec =
+    tie.close
+    (tie.spec (λ c κs. search needs) returns (λ c κs. search needs) returns-2)

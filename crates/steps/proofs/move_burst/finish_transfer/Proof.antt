@@ -10,4 +10,6 @@ returns-2 : tie.Need-returns-2
 returns-2 c = no _ (c .before .before .before .before .before .if1 .left) refl
 
 pub finish-transfer-spec : {M : Type 1} → statement M
-finish-transfer-spec = tie.close (tie.spec returns returns-2)
+finish-transfer-spec =
+    tie.close
+    (tie.spec returns returns-2)

@@ -4,24 +4,6 @@ use borrow.Author.Needs.{needs}
 use Rattle.steps.proofs.report.report_of.Statement.{statement}
 use Rattle.steps.proofs.report.report_of.Tie as tie
 
-enum-told : tie.Need-enum-told
-enum-told c = search needs
-
-enum-known-event : tie.Need-enum-known-event
-enum-known-event c = search needs
-
-enum-known-event-2 : tie.Need-enum-known-event-2
-enum-known-event-2 c = search needs
-
-enum-known-event-3 : tie.Need-enum-known-event-3
-enum-known-event-3 c = search needs
-
-enum-known-event-4 : tie.Need-enum-known-event-4
-enum-known-event-4 c = search needs
-
-enum-known-event-5 : tie.Need-enum-known-event-5
-enum-known-event-5 c = search needs
-
 returns : tie.Need-returns
 returns c = ap reportOf (sym (c .enum-told .given .1))
 
@@ -43,16 +25,5 @@ returns-6 c = ap reportOf (sym (c .before .event5 .given .1))
 pub report-of-spec : {M : Type 1} → statement M
 report-of-spec =
     tie.close
-    (tie.spec
-    enum-told
-    enum-known-event
-    enum-known-event-2
-    enum-known-event-3
-    enum-known-event-4
-    enum-known-event-5
-    returns
-    returns-2
-    returns-3
-    returns-4
-    returns-5
-    returns-6)
+    (tie.spec (λ c. search needs) (λ c. search needs) (λ c. search needs) (λ c. search needs) (λ c. search needs)
+    (λ c. search needs) returns returns-2 returns-3 returns-4 returns-5 returns-6)

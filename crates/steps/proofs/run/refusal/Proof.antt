@@ -6,9 +6,6 @@ use Rattle.steps.specs.Run.{refusalOf}
 use Rattle.steps.proofs.run.refusal.Statement.{statement}
 use Rattle.steps.proofs.run.refusal.Tie as tie
 
-legal-requires : tie.Need-legal-requires
-legal-requires c κs = search needs
-
 returns : tie.Need-returns
 unfolding refusalOf
 returns c = no _ (sym (c .before .legal .ensures) ∙ not-true _ (c .if1 .taken)) refl
@@ -21,9 +18,6 @@ returns-3 : tie.Need-returns-3
 unfolding refusalOf
 returns-3 c = yes _ (sym (c .before .before .before .legal .ensures) ∙ not-false _ (c .before .before .if1 .left)) (no _ (le-ltb _ _ (c .before .if2 .left)) (yes _ (lt-ltb _ _ (c .if3 .taken)) refl))
 
-well-formed-requires : tie.Need-well-formed-requires
-well-formed-requires c κs = search needs
-
 returns-4 : tie.Need-returns-4
 unfolding refusalOf
 returns-4 c = yes _ (sym (c .before .before .before .before .before .legal .ensures) ∙ not-false _ (c .before .before .before .before .if1 .left)) (no _ (le-ltb _ _ (c .before .before .before .if2 .left)) (no _ (le-ltb _ _ (c .before .before .if3 .left)) (no _ (sym (c .before .well-formed .ensures) ∙ not-true _ (c .if4 .taken)) refl)))
@@ -35,4 +29,4 @@ returns-5 c = yes _ (sym (c .before .before .before .before .before .legal .ensu
 pub refusal-spec : {M : Type 1} → statement M
 refusal-spec =
     tie.close
-    (tie.spec legal-requires returns returns-2 returns-3 well-formed-requires returns-4 returns-5)
+    (tie.spec (λ c κs. search needs) returns returns-2 returns-3 (λ c κs. search needs) returns-4 returns-5)

@@ -8,12 +8,6 @@ use Rattle.steps.proofs.Entries.{run-refused, run-taken}
 use Rattle.steps.proofs.run.run.Statement.{statement}
 use Rattle.steps.proofs.run.run.Tie as tie
 
-refusal-requires : tie.Need-refusal-requires
-refusal-requires c κs = search needs
-
-number-requires : tie.Need-number-requires
-number-requires c κs = search needs
-
 returns : tie.Need-returns
 returns c =
     let a = c .before .before .before .before .before .args in
@@ -29,9 +23,6 @@ walk-requires c κs =
     let p = unrefused-acceptable (a .engine) (now (a .memory)) (length (now (a .windows)) / 2) (sym n ∙ sym k ∙ c .before .if1 .left) (λ i. c .before .before .before .before .before .slice-known .given i .fits) in
     (p .legal, (p .small, p .well))
 
-same-length : tie.Need-same-length
-same-length c = search needs
-
 returns-2 : tie.Need-returns-2
 returns-2 c =
     let a = c .before .before .before .before .before .before .before .before .before .before .args in
@@ -42,4 +33,4 @@ returns-2 c =
 pub run-spec : {M : Type 1} → statement M
 run-spec =
     tie.close
-    (tie.spec refusal-requires number-requires returns walk-requires same-length returns-2)
+    (tie.spec (λ c κs. search needs) (λ c κs. search needs) returns walk-requires (λ c. search needs) returns-2)

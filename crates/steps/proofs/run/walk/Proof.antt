@@ -27,9 +27,6 @@ loop-holds c =
     let p = c .before .before .pre in
     (refl, walking-begin (a .most) (advanceSeen (record { event = None; engine = a .engine }) (a .memory .now)) (windowsOf (a .windows .now)) (record { legal = p .0; small = p .1 .0; few = omega arith; well = p .1 .1; bytes = λ i. c .before .slice-known .given i .fits }))
 
-busy-requires : tie.Need-busy-requires Inv-loop μ-loop
-busy-requires c κs = search needs
-
 advance-requires : tie.Need-advance-requires Inv-loop μ-loop
 advance-requires c κs = (c .before .before .before .before .before .loop .inv .1 .acceptable .legal, c .before .before .before .before .before .loop .inv .1 .acceptable .well)
 
@@ -60,14 +57,5 @@ returns c =
 pub walk-spec : {M : Type 1} → statement M
 walk-spec =
     tie.close
-    (tie.spec
-    Inv-loop
-    μ-loop
-    loop-holds
-    busy-requires
-    advance-requires
-    add-steps
-    loop-less
-    loop-again
-    same-length
-    returns)
+    (tie.spec Inv-loop μ-loop loop-holds (λ c κs. search needs) advance-requires add-steps loop-less loop-again
+    same-length returns)

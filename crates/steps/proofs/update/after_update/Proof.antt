@@ -6,13 +6,12 @@ use Rattle.steps.specs.declared.event.Advanced.{Advanced}
 use Rattle.steps.proofs.update.after_update.Statement.{statement}
 use Rattle.steps.proofs.update.after_update.Tie as tie
 
-retire-requires : tie.Need-retire-requires
-retire-requires c κs = search needs
-
 returns : tie.Need-returns
 returns c =
     let a = c .before .args in
     ap {B = Advanced} (λ (s : Engine). record { event = Update (a .engine .pointers .current) (a .word); engine = s }) (c .retire .ensures)
 
 pub after-update-spec : {M : Type 1} → statement M
-after-update-spec = tie.close (tie.spec retire-requires returns)
+after-update-spec =
+    tie.close
+    (tie.spec (λ c κs. search needs) returns)

@@ -11,4 +11,6 @@ returns-2 : tie.Need-returns-2
 returns-2 c = no _ (ne-eqb _ _ (c .before .before .before .if1 .left)) refl
 
 pub complete-descriptor-spec : {M : Type 1} → statement M
-complete-descriptor-spec = tie.close (tie.spec returns returns-2)
+complete-descriptor-spec =
+    tie.close
+    (tie.spec returns returns-2)

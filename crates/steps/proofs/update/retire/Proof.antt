@@ -4,30 +4,6 @@ use Rattle.steps.specs.Step.{retireOf}
 use Rattle.steps.proofs.update.retire.Statement.{statement}
 use Rattle.steps.proofs.update.retire.Tie as tie
 
-enum-told : tie.Need-enum-told
-enum-told c = search needs
-
-complete-descriptor-requires : tie.Need-complete-descriptor-requires
-complete-descriptor-requires c κs = search needs
-
-enum-told-2 : tie.Need-enum-told-2
-enum-told-2 c = search needs
-
-stop-on-error-requires : tie.Need-stop-on-error-requires
-stop-on-error-requires c κs = search needs
-
-enum-told-3 : tie.Need-enum-told-3
-enum-told-3 c = search needs
-
-stop-on-error-requires-2 : tie.Need-stop-on-error-requires-2
-stop-on-error-requires-2 c κs = search needs
-
-enum-told-4 : tie.Need-enum-told-4
-enum-told-4 c = search needs
-
-stop-on-error-requires-3 : tie.Need-stop-on-error-requires-3
-stop-on-error-requires-3 c κs = search needs
-
 returns : tie.Need-returns
 returns c = c .complete-descriptor .ensures ∙ ap (retireOf (c .before .before .before .args .engine)) (sym (c .before .enum-told .given .1))
 
@@ -43,16 +19,6 @@ returns-4 c = c .stop-on-error3 .ensures ∙ ap (retireOf (c .before .before .be
 pub retire-spec : {M : Type 1} → statement M
 retire-spec =
     tie.close
-    (tie.spec
-    enum-told
-    complete-descriptor-requires
-    enum-told-2
-    stop-on-error-requires
-    enum-told-3
-    stop-on-error-requires-2
-    enum-told-4
-    stop-on-error-requires-3
-    returns
-    returns-2
-    returns-3
+    (tie.spec (λ c. search needs) (λ c κs. search needs) (λ c. search needs) (λ c κs. search needs)
+    (λ c. search needs) (λ c κs. search needs) (λ c. search needs) (λ c κs. search needs) returns returns-2 returns-3
     returns-4)

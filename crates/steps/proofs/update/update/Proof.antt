@@ -10,47 +10,8 @@ use borrow.Author.Needs.{needs}
 use Rattle.steps.proofs.update.update.Statement.{statement}
 use Rattle.steps.proofs.update.update.Tie as tie
 
-cast-at : tie.Need-cast-at
-cast-at c = search needs
-
-add-at : tie.Need-add-at
-add-at c = search needs
-
-cast-judge : tie.Need-cast-judge
-cast-judge c = search needs
-
-judge-requires : tie.Need-judge-requires
-judge-requires c κs = search needs
-
-enum-told : tie.Need-enum-told
-enum-told c = search needs
-
-status-word-requires : tie.Need-status-word-requires
-status-word-requires c κs = search needs
-
-cast-store : tie.Need-cast-store
-cast-store c = search needs
-
 store-requires : tie.Need-store-requires
 store-requires c κs = group-okay-fits _ _ _ _ (sym (c .before .before .before .before .judge .ensures) ∙ c .before .before .enum-told .given .1) (omega arith)
-
-after-update-requires : tie.Need-after-update-requires
-after-update-requires c κs = search needs
-
-enum-told-2 : tie.Need-enum-told-2
-enum-told-2 c = search needs
-
-halt-requires : tie.Need-halt-requires
-halt-requires c κs = search needs
-
-enum-told-3 : tie.Need-enum-told-3
-enum-told-3 c = search needs
-
-halt-requires-2 : tie.Need-halt-requires-2
-halt-requires-2 c κs = search needs
-
-same-length : tie.Need-same-length
-same-length c = search needs
 
 returns : tie.Need-returns
 returns c =
@@ -75,21 +36,6 @@ returns-3 c =
 pub update-spec : {M : Type 1} → statement M
 update-spec =
     tie.close
-    (tie.spec
-    cast-at
-    add-at
-    cast-judge
-    judge-requires
-    enum-told
-    status-word-requires
-    cast-store
-    store-requires
-    after-update-requires
-    enum-told-2
-    halt-requires
-    enum-told-3
-    halt-requires-2
-    same-length
-    returns
-    returns-2
-    returns-3)
+    (tie.spec (λ c. search needs) (λ c. search needs) (λ c. search needs) (λ c κs. search needs) (λ c. search needs)
+    (λ c κs. search needs) (λ c. search needs) store-requires (λ c κs. search needs) (λ c. search needs)
+    (λ c κs. search needs) (λ c. search needs) (λ c κs. search needs) (λ c. search needs) returns returns-2 returns-3)

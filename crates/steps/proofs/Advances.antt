@@ -1,5 +1,5 @@
 -- The view of a step: every step is one of these. What holds in each case holds of a step.
-use mathlib.Core.Path.{_≡_, refl, ap}
+use mathlib.Core.Path.{_≡_, refl, sym, ap, _∙_}
 use Prim.Native.Nat.{ℕ}
 use mathlib.Core.Bool.{Bool, true, false}
 use mathlib.Core.List.{List}
@@ -87,3 +87,8 @@ module _ (s : Engine) (m : List ℕ) (windows : List Window) where
   pub advances : Advance (advanceOf s m windows)
   unfolding advanceOf
   advances = by-phase (s .phase) refl
+
+  -- a step by its phase
+  pub advance-by : {p : Phase} {r : AfterAdvance} → s .phase ≡ p → r ≡ advanceBy s m windows p → r ≡ advanceOf s m windows
+  unfolding advanceOf
+  advance-by e f = f ∙ ap (advanceBy s m windows) (sym e)

@@ -16,21 +16,21 @@ use Rattle.state.specs.declared.engine.Engine.{Engine}
 use Rattle.state.specs.declared.engine.Phase.{Phase}
 use Rattle.state.specs.declared.engine.Phase.the-variants.{Idle, Fetch, Move, Update}
 use Rattle.state.specs.State.{busyOf}
-use Rattle.steps.specs.Step.{AfterAdvance, begun, advanceBy, advanceOf}
+use Rattle.steps.specs.Step.{AfterAdvance, begun, advanceOf}
 use Rattle.steps.specs.Run.{refusalOf, AfterWalk, afterSteps, walkFrom, AfterStep, stepAnswer, stepOf, AfterRun, runAnswer, runOf}
 use Rattle.steps.specs.Claims.{StepAdvances, stepsFrom, WalkSteps, StepUnique, RunUnique}
 use Rattle.steps.proofs.Acceptable.{acceptable-unrefused, advance-acceptable}
+use Rattle.steps.proofs.Advances.{advance-by}
 use Rattle.steps.proofs.Walks.{walk-none, walk-idle, walk-step}
 
+idle : (p : Phase) → busyOf p ≡ false → p ≡ Idle
+idle Idle e = refl
+idle Fetch e = absurd (never (sym e))
+idle (Move t) e = absurd (never (sym e))
+idle (Update o) e = absurd (never (sym e))
+
 advance-idle : (s : Engine) (m : List ℕ) (windows : List Window) → busyOf (s .phase) ≡ false → begun s m ≡ advanceOf s m windows
-unfolding advanceOf
-advance-idle s m windows e = go (s .phase) e
-  where
-    go : (p : Phase) → busyOf p ≡ false → begun s m ≡ advanceBy s m windows p
-    go Idle e = refl
-    go Fetch e = absurd (never (sym e))
-    go (Move t) e = absurd (never (sym e))
-    go (Update o) e = absurd (never (sym e))
+advance-idle s m windows e = advance-by s m windows (idle (s .phase) e) refl
 
 -- a walk without its number of steps
 abbrev pub unstepped : AfterWalk → AfterAdvance

@@ -1,4 +1,4 @@
-use mathlib.Core.Path.{_≡_, sym, ap, subst, _∙_}
+use mathlib.Core.Path.{_≡_, refl, ap, subst}
 use mathlib.Core.Bool.{true}
 use borrow.Author.Needs.{needs}
 use denote.Ref.{now}
@@ -6,7 +6,8 @@ use Rattle.memory.specs.Windows.{windowsOf}
 use Rattle.state.specs.declared.engine.Phase.{Phase}
 use Rattle.state.specs.State.{phaseFits}
 use Rattle.state.proofs.WellFormed.{parts, well-formed}
-use Rattle.steps.specs.Step.{advanceSeen, advanceBy, advanceOf}
+use Rattle.steps.specs.Step.{advanceSeen}
+use Rattle.steps.proofs.Advances.{advance-by}
 use Rattle.steps.proofs.advance.advance.Statement.{statement}
 use Rattle.steps.proofs.advance.advance.Tie as tie
 
@@ -19,32 +20,24 @@ update-requires : tie.Need-update-requires
 update-requires c κs = well-formed (c .before .before .before .before .before .before .args .engine) (c .before .before .before .before .before .before .pre .1) .current-aligned
 
 returns : tie.Need-returns
-unfolding advanceOf
 returns c =
     let a = c .before .before .before .before .args in
-    let then = ap (advanceBy (a .engine) (now (a .memory)) (windowsOf (now (a .windows)))) (sym (c .enum-told .given .1)) in
-    then
+    advance-by (a .engine) (now (a .memory)) (windowsOf (now (a .windows))) (c .enum-told .given .1) refl
 
 returns-2 : tie.Need-returns-2
-unfolding advanceOf
 returns-2 c =
     let a = c .before .before .before .before .before .before .args in
-    let then = ap (advanceBy (a .engine) (now (a .memory)) (windowsOf (now (a .windows)))) (sym (c .before .before .enum-told2 .given .1)) in
-    ap (λ r. advanceSeen r (now (a .memory))) (c .fetch .ensures) ∙ then
+    advance-by (a .engine) (now (a .memory)) (windowsOf (now (a .windows))) (c .before .before .enum-told2 .given .1) (ap (λ r. advanceSeen r (now (a .memory))) (c .fetch .ensures))
 
 returns-3 : tie.Need-returns-3
-unfolding advanceOf
 returns-3 c =
     let a = c .before .before .before .before .before .before .before .before .before .args in
-    let then = ap (advanceBy (a .engine) (now (a .memory)) (windowsOf (now (a .windows)))) (sym (c .before .before .before .before .before .phase .given .1)) in
-    c .before .before .move-burst .ensures ∙ then
+    advance-by (a .engine) (now (a .memory)) (windowsOf (now (a .windows))) (c .before .before .before .before .before .phase .given .1) (c .before .before .move-burst .ensures)
 
 returns-4 : tie.Need-returns-4
-unfolding advanceOf
 returns-4 c =
     let a = c .before .before .before .before .before .before .before .before .before .args in
-    let then = ap (advanceBy (a .engine) (now (a .memory)) (windowsOf (now (a .windows)))) (sym (c .before .before .before .before .before .phase2 .given .1)) in
-    c .before .before .update .ensures ∙ then
+    advance-by (a .engine) (now (a .memory)) (windowsOf (now (a .windows))) (c .before .before .before .before .before .phase2 .given .1) (c .before .before .update .ensures)
 
 pub advance-spec : {M : Type 1} → statement M
 advance-spec =

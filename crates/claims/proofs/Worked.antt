@@ -10,7 +10,7 @@ use Rattle.memory.specs.Verdict.{groupOf}
 use Rattle.state.specs.State.{wellFormedOf}
 use Rattle.registers.specs.Write.{registerWrittenOf}
 use Rattle.steps.specs.Step.{acceptOf, advanceOf}
-use Rattle.claims.specs.Worked.{SimpleWorked, SimpleCleared, ChainWorked, ChainReplaced}
+use Rattle.claims.specs.Worked.{SimpleWorked, SimpleCleared, SimpleControlled, ChainWorked, ChainReplaced}
 
 pub simple-worked : SimpleWorked
 unfolding legalWidth legalBeats reach burstEnd sick groupOf wellFormedOf registerWrittenOf acceptOf advanceOf
@@ -20,7 +20,7 @@ simple-worked = record {
     well = refl;
     before = refl;
     starts = refl;
-    runs = (refl, refl, (refl, refl, (refl, refl, (refl, refl, (refl, refl, refl)))));
+    runs = (refl, refl, (refl, refl, (refl, refl, (refl, refl, (refl, refl, (refl, refl, refl))))));
     good = refl;
   };
   alone = record { own = (refl, (refl, tt)); apart = inl (omega arith); misses = λ e. absurd (never e) };
@@ -31,6 +31,10 @@ simple-worked = record {
 pub simple-cleared : SimpleCleared
 unfolding legalWidth legalBeats reach burstEnd sick groupOf wellFormedOf registerWrittenOf advanceOf
 simple-cleared = (refl, refl, refl)
+
+pub simple-controlled : SimpleControlled
+unfolding legalWidth legalBeats reach burstEnd sick groupOf wellFormedOf registerWrittenOf advanceOf
+simple-controlled = (refl, refl, refl)
 
 pub chain-worked : ChainWorked
 unfolding legalWidth legalBeats reach burstEnd sick groupOf wellFormedOf registerWrittenOf acceptOf advanceOf

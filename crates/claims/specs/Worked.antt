@@ -59,11 +59,11 @@ simpleTransfer = record { source = 3; destination = 100; total = 65; moved = 0 }
 abbrev pub simpleStart : Act
 simpleStart = write 0x28 65
 
--- between the bursts the interrupt is cleared, CDMASR read, and a write of DA refused
+-- between the bursts the interrupt is cleared, CDMACR written (Err_IrqEn alone), CDMASR read, and a write of DA refused
 abbrev pub simpleRest : List Act
 simpleRest =
     let begun = after simpleEngine (simpleStart ∷ []) in
-    step simpleMemory elsewhere ∷ write 0x04 0x1000 ∷ read 0x04 ∷ write 0x20 7 ∷ step (left simpleMemory begun (step simpleMemory elsewhere ∷ [])) [] ∷ []
+    step simpleMemory elsewhere ∷ write 0x04 0x1000 ∷ write 0x00 0x4000 ∷ read 0x04 ∷ write 0x20 7 ∷ step (left simpleMemory begun (step simpleMemory elsewhere ∷ [])) [] ∷ []
 
 abbrev pub SimpleWorked : Type 0
 SimpleWorked =
@@ -75,6 +75,13 @@ SimpleCleared =
     (after simpleEngine (simpleStart ∷ take 1 simpleRest) .status .ioc ≡ true)
     × (after simpleEngine (simpleStart ∷ take 2 simpleRest) .status .ioc ≡ false)
     × (after simpleEngine (simpleStart ∷ simpleRest) .status .ioc ≡ true)
+
+-- IOC_IrqEn stood before the write of CDMACR and not after it; the transfer goes on
+abbrev pub SimpleControlled : Type 0
+SimpleControlled =
+    (after simpleEngine (simpleStart ∷ take 2 simpleRest) .control .iocen ≡ true)
+    × (after simpleEngine (simpleStart ∷ take 3 simpleRest) .control .iocen ≡ false)
+    × (after simpleEngine (simpleStart ∷ simpleRest) .phase ≡ Idle)
 
 -- ---- chain mode: the descriptor at 0 moves 65 bytes from 89 to 163
 

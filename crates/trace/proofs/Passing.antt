@@ -1,113 +1,119 @@
--- A pass in its midst, and what one turn does to it.
-use mathlib.Core.Path.{_≡_, refl, sym, ap, ap₂, subst, _∙_}
+-- Turns in their midst: what a loop has taken and put so far, and what one turn more does to it.
+use mathlib.Core.Path.{_≡_, refl, sym, ap, subst, _∙_}
 use Prim.Native.Nat.{ℕ, suc, _+_, _-_, _≤_, _<_}
+use native.Mathlib.Nat.{add-zero}
 use mathlib.Core.Bool.{Bool, true, false}
 use mathlib.Core.List.{List, [], _++_}
 use borrow.Author.Count.{below-more}
 use borrow.Author.Tests.{le-leb, lt-leb}
 use native.Mathlib.Omega.{arith}
-use lib.ListN.{length, drop, length-append}
-use lib.Seq.{sets, sets-eq, length-sets}
+use lib.ListN.{length, drop}
+use lib.Seq.{sets, sets-eq}
 use lib.Dec.{leb}
 use Rattle.kit.specs.Choice.{both}
 use Rattle.kit.proofs.Choice.{both-join}
-use Rattle.memory.proofs.Stores.{sets-append}
-use Rattle.listing.specs.Line.{lineOf}
 use Rattle.listing.specs.Puts.{Puts}
-use Rattle.listing.proofs.Lines.{line-some}
+use Rattle.listing.proofs.Puts.{puts-length, puts-then}
 use Rattle.trace.specs.declared.session.Session.{Session}
-use Rattle.trace.specs.declared.turn.Turned.{Turned}
-use Rattle.trace.specs.Turn.{Turn, turnOf, turnedOf}
-use Rattle.trace.specs.Pass.{readyOf, readyIn, Replay, begin, turnOn, turnsOf, lineRoom, goesOn, Passes}
-use Rattle.trace.proofs.Lengths.{Kept, turn-kept}
+use Rattle.trace.specs.Effect.{Lent, lend}
+use Rattle.trace.specs.Pass.{readyOf, Replay, replayAs, beginWith, turnOn, turnsOf, lineRoom, goesOn, Passes, PutsLines}
+use Rattle.trace.proofs.Turns.{both-no, SameLengths}
 
-pub record Passing (base : ℕ) (input : List ℕ) (ended : Bool) (s₀ : Session) (m₀ w₀ out₀ : List ℕ) (s : Session) (at : ℕ) (m w out : List ℕ) (put : ℕ) : Type 0 where
+pub record Passing (room base : ℕ) (input : List ℕ) (ended : Bool) (s₀ : Session) (l₀ : Lent) (out₀ : List ℕ) (put₀ : ℕ) (s : Session) (at : ℕ) (lent : Lent) (out : List ℕ) (put : ℕ) : Type 0 where
   pub turns : ℕ
   pub text : List ℕ
-  pub goes : (k : ℕ) → k < turns → goesOn (length out₀) input ended (turnsOf k base input (begin s₀ m₀ w₀)) ≡ true
-  pub ends : record { session = s; at = at; memory = m; windows = w; text = text } ≡ turnsOf turns base input (begin s₀ m₀ w₀)
-  pub stored : out ≡ sets out₀ 0 text
-  pub put-is : put ≡ length text
+  pub goes : (k : ℕ) → k < turns → goesOn room input ended (turnsOf k base input (beginWith s₀ l₀)) ≡ true
+  pub ends : replayAs s at lent text ≡ turnsOf turns base input (beginWith s₀ l₀)
+  pub puts : Puts out₀ out put₀ put text
+  pub sized : put₀ + room ≡ length out₀
   pub fits : put ≤ length out₀
   pub within : at ≤ length input
-  pub memory : length m ≡ length m₀
-  pub windows : length w ≡ length w₀
-  pub room : length out ≡ length out₀
+  pub lengths : SameLengths l₀ lent
 
-pub passing-begin : (base : ℕ) (input : List ℕ) (ended : Bool) (s : Session) (m w out : List ℕ) → Passing base input ended s m w out s 0 m w out 0
+pub passing-begin : (room base : ℕ) (input : List ℕ) (ended : Bool) (s : Session) (lent : Lent) (out : List ℕ) (put : ℕ) → put + room ≡ length out
+    → Passing room base input ended s lent out put s 0 lent out put
 unfolding turnsOf
-passing-begin base input ended s m w out = record {
+passing-begin room base input ended s lent out put sized = record {
   turns = 0;
   text = [];
   goes = λ k h. absurd (omega arith);
   ends = refl;
-  stored = refl;
-  put-is = refl;
+  puts = record { past = sym (add-zero put); stored = refl };
+  sized = sized;
   fits = omega arith;
   within = omega arith;
-  memory = refl;
-  windows = refl;
-  room = refl;
+  lengths = record { memory = refl; windows = refl };
 }
 
-module _ {base : ℕ} {input : List ℕ} {ended : Bool} {s₀ : Session} {m₀ w₀ out₀ : List ℕ} {s : Session} {at : ℕ} {m w out : List ℕ} {put : ℕ}
-    (p : Passing base input ended s₀ m₀ w₀ out₀ s at m w out put) where
-  -- a turn that was ready, its line in the room that was left
-  pub passing-turn : (r : Turned) {m′ w′ out′ : List ℕ} {put′ : ℕ} → readyOf (s .mode) (length input - at) ended ≡ true
-      → put + lineRoom ≤ length out₀ → length (lineOf (r .line)) ≤ lineRoom
-      → turnedOf r m′ w′ ≡ turnOf s (base + at) input at m w
-      → Puts out out′ put put′ (lineOf (r .line)) → Passing base input ended s₀ m₀ w₀ out₀ (r .session) (r .at) m′ w′ out′ put′
-  unfolding turnOn turnsOf
-  passing-turn r {m′} {w′} {out′} {put′} can room short e puts =
-      let k = subst (Kept input m w) (sym e) (turn-kept s (base + at) input at m w (p .within)) in
-      let line = lineOf (r .line) in
-      let placed : put ≡ 0 + length (p .text) = omega (arith, p .put-is) in
-      let go : both (leb (length (p .text) + lineRoom) (length out₀)) (readyOf (s .mode) (length input - at) ended) ≡ true =
-      both-join (le-leb (length (p .text) + lineRoom) (length out₀) (omega (arith, p .put-is))) can in
+module _ {room base : ℕ} {input : List ℕ} {ended : Bool} {s₀ : Session} {l₀ : Lent} {out₀ : List ℕ} {put₀ : ℕ} {s : Session} {at : ℕ} {lent : Lent} {out : List ℕ} {put : ℕ}
+    (p : Passing room base input ended s₀ l₀ out₀ put₀ s at lent out put) where
+  -- the buffer keeps its length
+  pub passing-room : length out ≡ length out₀
+  passing-room = puts-length (p .puts)
+
+  -- a turn that was ready, its text in the room that was left
+  pub passing-turn : {s′ : Session} {at′ : ℕ} {lent′ : Lent} {out′ : List ℕ} {put′ : ℕ} (told : List ℕ)
+      → ((text : List ℕ) → turnOn base input (replayAs s at lent text) ≡ replayAs s′ at′ lent′ (text ++ told))
+      → readyOf (s .mode) (length input - at) ended ≡ true → put + lineRoom ≤ length out₀ → Puts out out′ put put′ told → put′ ≤ length out₀
+      → at′ ≤ length input → SameLengths lent lent′
+      → Passing room base input ended s₀ l₀ out₀ put₀ s′ at′ lent′ out′ put′
+  unfolding turnsOf
+  passing-turn {s′} {at′} {lent′} {out′} {put′} told turn can free puts fits within lengths =
+      let go : both (leb (length (p .text) + lineRoom) room) (readyOf (s .mode) (length input - at) ended) ≡ true =
+      both-join (le-leb (length (p .text) + lineRoom) room (omega (arith, p .puts .past, p .sized))) can in
       record {
         turns = suc (p .turns);
-        text = p .text ++ line;
-        goes = λ k h. below-more _ _ (p .goes) (subst (λ (x : Replay). goesOn (length out₀) input ended x ≡ true) (p .ends) go) k (omega arith);
-        ends = ap {B = Replay} (λ (t : Turn). record { session = t .session; at = t .at; memory = t .memory; windows = t .windows; text = p .text ++ lineOf (t .line) }) e
-            ∙ ap (turnOn base input) (p .ends);
-        stored = puts .stored ∙ ap₂ (λ (l : List ℕ) (i : ℕ). sets l i line) (p .stored) placed ∙ sym (sets-append out₀ 0 (p .text) line);
-        put-is = puts .past ∙ ap (λ (n : ℕ). n + length line) (p .put-is) ∙ sym (length-append (p .text) line);
-        fits = omega (arith, puts .past);
-        within = k .within;
-        memory = k .memory ∙ p .memory;
-        windows = k .windows ∙ p .windows;
-        room = ap length (puts .stored) ∙ length-sets out put line ∙ p .room;
+        text = p .text ++ told;
+        goes = λ k h. below-more _ _ (p .goes) (subst (λ (x : Replay). goesOn room input ended x ≡ true) (p .ends) go) k (omega arith);
+        ends = sym (turn (p .text)) ∙ ap (turnOn base input) (p .ends);
+        puts = puts-then told (puts .past) (p .puts) (puts .stored);
+        sized = p .sized;
+        fits = fits;
+        within = within;
+        lengths = record { memory = lengths .memory ∙ p .lengths .memory; windows = lengths .windows ∙ p .lengths .windows };
       }
 
-  -- a line has a byte at least: the pass comes to its end
-  pub passing-on : (r : Turned) {out′ : List ℕ} {put′ : ℕ} → Puts out out′ put put′ (lineOf (r .line)) → put < put′
-  passing-on r puts = omega (arith, puts .past, line-some (r .line))
+  -- turns end where the buffer is full, or where none can be taken
+  pub passing-full : length out₀ < put + lineRoom → goesOn room input ended (turnsOf (p .turns) base input (beginWith s₀ l₀)) ≡ false
+  passing-full h =
+      subst (λ (x : Replay). goesOn room input ended x ≡ false) (p .ends)
+      (ap (λ (t : Bool). both t (readyOf (s .mode) (length input - at) ended)) (lt-leb (length (p .text) + lineRoom) room (omega (arith, p .puts .past, p .sized))))
 
-  ended-as : both (leb (length (p .text) + lineRoom) (length out₀)) (readyOf (s .mode) (length input - at) ended) ≡ false
-      → Passes s₀ base input ended m₀ w₀ out₀ (record { session = s; at = at; put = put }) m w out
-  ended-as stop =
-      let placed : 0 + length (p .text) ≡ put = omega (arith, p .put-is) in
-      record {
-        turns = p .turns;
-        text = p .text;
-        goes = p .goes;
-        stops = subst (λ (x : Replay). goesOn (length out₀) input ended x ≡ false) (p .ends) stop;
-        ends = p .ends;
-        put = p .put-is;
-        fits = p .fits;
-        stored = p .stored ∙ sets-eq (p .text) out₀ 0 (omega (arith, p .put-is)) ∙ ap (λ (n : ℕ). p .text ++ drop n out₀) placed;
-      }
-
-  -- a pass ends where the buffer is full, or where no turn can be taken
-  pub passing-full : length out₀ < put + lineRoom
-      → Passes s₀ base input ended m₀ w₀ out₀ (record { session = s; at = at; put = put }) m w out
-  passing-full h = ended-as (ap (λ (t : Bool). both t (readyOf (s .mode) (length input - at) ended)) (lt-leb (length (p .text) + lineRoom) (length out₀) (omega (arith, p .put-is))))
-
-  pub passing-stops : readyOf (s .mode) (length input - at) ended ≡ false
-      → Passes s₀ base input ended m₀ w₀ out₀ (record { session = s; at = at; put = put }) m w out
+  pub passing-stops : readyOf (s .mode) (length input - at) ended ≡ false → goesOn room input ended (turnsOf (p .turns) base input (beginWith s₀ l₀)) ≡ false
   passing-stops h =
-      ended-as (ap (both (leb (length (p .text) + lineRoom) (length out₀))) h ∙ nor (leb (length (p .text) + lineRoom) (length out₀)))
-    where
-      nor : (t : Bool) → both t false ≡ false
-      nor true = refl
-      nor false = refl
+      subst (λ (x : Replay). goesOn room input ended x ≡ false) (p .ends)
+      (ap (both (leb (length (p .text) + lineRoom) room)) h ∙ both-no (leb (length (p .text) + lineRoom) room))
+
+-- a whole buffer's turns are a pass
+pub passes-by : {base : ℕ} {input : List ℕ} {ended : Bool} {s₀ : Session} {m₀ w₀ out₀ : List ℕ} {s : Session} {at : ℕ} {m w out : List ℕ} {put : ℕ}
+    (p : Passing (length out₀) base input ended s₀ (lend m₀ w₀) out₀ 0 s at (lend m w) out put)
+    → goesOn (length out₀) input ended (turnsOf (p .turns) base input (beginWith s₀ (lend m₀ w₀))) ≡ false
+    → Passes s₀ base input ended m₀ w₀ out₀ (record { session = s; at = at; put = put }) m w out
+passes-by {out₀ = out₀} {put = put} p stops =
+    let long : put ≡ length (p .text) = omega (arith, p .puts .past) in
+    let place : 0 + length (p .text) ≡ put = omega (arith, p .puts .past) in
+    record {
+      turns = p .turns;
+      text = p .text;
+      goes = p .goes;
+      stops = stops;
+      ends = p .ends;
+      put = long;
+      fits = p .fits;
+      stored = p .puts .stored ∙ sets-eq (p .text) out₀ 0 (omega (arith, long, p .fits)) ∙ ap (λ (n : ℕ). p .text ++ drop n out₀) place;
+    }
+
+-- the lines of an ST that were put are turns on no input
+pub lines-by : {s₀ : Session} {l₀ : Lent} {put₀ : ℕ} {out₀ : List ℕ} {s : Session} {lent : Lent} {out : List ℕ} {put : ℕ}
+    (p : Passing (length out₀ - put₀) 0 [] false s₀ l₀ out₀ put₀ s 0 lent out put)
+    → goesOn (length out₀ - put₀) [] false (turnsOf (p .turns) 0 [] (beginWith s₀ l₀)) ≡ false
+    → PutsLines s₀ l₀ put₀ out₀ (record { session = s; put = put }) lent out
+lines-by p stops = record {
+  turns = p .turns;
+  text = p .text;
+  goes = p .goes;
+  stops = stops;
+  ends = p .ends;
+  puts = p .puts;
+  fits = p .fits;
+}

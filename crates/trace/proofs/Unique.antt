@@ -11,7 +11,8 @@ use borrow.Author.Tests.{ltb-true, ltb-false}
 use Rattle.kit.proofs.Choice.{decide, never}
 use Rattle.trace.specs.declared.session.Session.{Session}
 use Rattle.trace.specs.declared.pass.Passed.{Passed}
-use Rattle.trace.specs.Pass.{Replay, begin, goesOn, turnsOf, Passes, PassUnique}
+use Rattle.trace.specs.Effect.{lend}
+use Rattle.trace.specs.Pass.{Replay, replayAs, begin, goesOn, turnsOf, Passes, PassUnique}
 
 -- the first number at which a test fails is one number
 first-unique : (p : ℕ → Bool) (n k : ℕ) → ((j : ℕ) → j < n → p j ≡ true) → p n ≡ false → ((j : ℕ) → j < k → p j ≡ true) → p k ≡ false → n ≡ k
@@ -32,7 +33,7 @@ module _ (s : Session) (base : ℕ) (input : List ℕ) (ended : Bool) (m w out :
 
   module _ {r : Passed} {m′ w′ out′ : List ℕ} (p : Passes s base input ended m w out r m′ w′ out′) where
     endOf : Replay
-    endOf = record { session = r .session; at = r .at; memory = m′; windows = w′; text = p .text }
+    endOf = replayAs (r .session) (r .at) (lend m′ w′) (p .text)
 
     result-is : r ≡ resultOf endOf
     unfolding resultOf endOf
@@ -55,8 +56,8 @@ module _ (s : Session) (base : ℕ) (input : List ℕ) (ended : Bool) (m w out :
     unfolding endOf
     same = (
       result-is p ∙ ap resultOf same-end ∙ sym (result-is q),
-      ap (λ (x : Replay). x .memory) same-end,
-      ap (λ (x : Replay). x .windows) same-end,
+      ap (λ (x : Replay). x .lent .memory) same-end,
+      ap (λ (x : Replay). x .lent .windows) same-end,
       out-is p ∙ ap outOf same-end ∙ sym (out-is q),
     )
 

@@ -1,6 +1,8 @@
--- Document 01, "Trace and listing": what each record but ST does and prints.
+-- Document 01, "Trace and listing": what each record does and prints.
 use Prim.Native.Nat.{ℕ, _+_, _*_}
-use mathlib.Core.List.{List}
+use mathlib.Core.Path.{_≡_}
+use mathlib.Core.Bool.{Bool, true, false}
+use mathlib.Core.List.{List, []}
 use lib.ListN.{length, take, drop, set}
 use lib.Seq.{sets}
 use lib.Dec.{eqb, leb, ltb}
@@ -15,9 +17,11 @@ use Rattle.registers.specs.Write as registers-written
 use Rattle.registers.specs.Read as registers-read
 use Rattle.monitor.specs.declared.clock.Clock.{Clock}
 use Rattle.monitor.specs.Monitor as bus
-use Rattle.listing.specs.declared.word.Word.the-variants.{Set, Memory, Window, Write, Read, NoRead, Bus, Bad}
+use Rattle.listing.specs.declared.line.Line.{Line}
+use Rattle.listing.specs.Line.{lineOf}
+use Rattle.listing.specs.declared.word.Word.the-variants.{Set, Memory, Window, Write, Read, NoRead, Bus, Stop, Bad}
 use Rattle.trace.specs.declared.session.Mode.{Mode}
-use Rattle.trace.specs.declared.session.Mode.the-variants.{Records, Over}
+use Rattle.trace.specs.declared.session.Mode.the-variants.{Records, Steps, Over}
 use Rattle.trace.specs.declared.session.Session.{Session}
 use Rattle.trace.specs.declared.session.Effect.{Effect}
 
@@ -41,13 +45,28 @@ withSequence s sequence = withEngine s sequence (s .engine)
 abbrev pub withMode : Session → Mode → Session
 withMode s m = record { engine = s .engine; monitor = s .monitor; sequence = s .sequence; windows = s .windows; mode = m }
 
--- a session and its line, with the slice that was lent beside them
-pub record Effected : Type 0 where
-  pub effect : Effect
-  pub lent : List ℕ
+-- what the program lends to a replay
+pub record Lent : Type 0 where
+  pub memory : List ℕ
+  pub windows : List ℕ
 
-abbrev pub effected : Effect → List ℕ → Effected
-effected e lent = record { effect = e; lent = lent }
+abbrev pub lend : List ℕ → List ℕ → Lent
+lend m w = record { memory = m; windows = w }
+
+-- what a record or a step leaves
+pub record After : Type 0 where
+  pub effect : Effect
+  pub lent : Lent
+
+abbrev pub after : Effect → Lent → After
+after e lent = record { effect = e; lent = lent }
+
+-- of what is lent, only the memory, or only the windows, may change
+abbrev pub OnMemory : (Lent → After) → List ℕ → Effect → List ℕ → Type 0
+OnMemory leaves m r m′ = (w : List ℕ) → after r (lend m′ w) ≡ leaves (lend m w)
+
+abbrev pub OnWindows : (Lent → After) → List ℕ → Effect → List ℕ → Type 0
+OnWindows leaves w r w′ = (m : List ℕ) → after r (lend m w′) ≡ leaves (lend m w)
 
 -- any other refusal prints last good sequence, `bad`, answer, the mark's position, and ends
 abbrev pub badOf : Session → ℕ → ℕ → Effect
@@ -67,23 +86,23 @@ settingsOf s sequence width beats position =
     (badOf s (numberOf answers.Settings) position)
 
 -- MM: memory address length; bytes past the program's memory are refused
-abbrev pub memoryOf : Session → ℕ → ℕ → ℕ → ℕ → List ℕ → ℕ → List ℕ → Effected
-memoryOf s sequence address count position input from m =
-    when (ltb (length m) (address + count)) (effected (badOf s (numberOf answers.MemoryEnd) position) m)
-    (effected
+abbrev pub memoryOf : Session → ℕ → ℕ → ℕ → ℕ → List ℕ → ℕ → Lent → After
+memoryOf s sequence address count position input from lent =
+    when (ltb (length (lent .memory)) (address + count)) (after (badOf s (numberOf answers.MemoryEnd) position) lent)
+    (after
     (record { session = withSequence s sequence; line = record { sequence = sequence; word = Memory; first = address; second = count } })
-    (sets m address (take count (drop from input))))
+    (lend (sets (lent .memory) address (take count (drop from input))) (lent .windows)))
 
 -- SW: window start length; a seventeenth is refused
-abbrev pub windowOf : Session → ℕ → ℕ → ℕ → ℕ → List ℕ → Effected
-windowOf s sequence start count position windows =
-    when (leb mostWindows (s .windows)) (effected (badOf s (numberOf answers.WindowCount) position) windows)
-    (effected
+abbrev pub windowOf : Session → ℕ → ℕ → ℕ → ℕ → Lent → After
+windowOf s sequence start count position lent =
+    when (leb mostWindows (s .windows)) (after (badOf s (numberOf answers.WindowCount) position) lent)
+    (after
     (record {
       session = record { engine = s .engine; monitor = s .monitor; sequence = sequence; windows = s .windows + 1; mode = s .mode };
       line = record { sequence = sequence; word = Window; first = start; second = count };
     })
-    (set (set windows (2 * s .windows) start) (2 * s .windows + 1) count))
+    (lend (lent .memory) (set (set (lent .windows) (2 * s .windows) start) (2 * s .windows + 1) count)))
 
 -- WR: write offset answer
 abbrev pub writeOf : Session → ℕ → ℕ → ℕ → Effect
@@ -115,3 +134,19 @@ clockOf s sequence bits clock position =
       line = record { sequence = sequence; word = Bus; first = c .count; second = bus.lowestOf (c .monitor) };
     })
     (badOf s (c .number) position))
+
+-- ST: its steps are to come, and with them its lines: the one here is not printed
+abbrev pub stepsOf : Session → ℕ → ℕ → Effect
+stepsOf s sequence count = record {
+  session = withMode (withSequence s sequence) (Steps count 0);
+  line = record { sequence = sequence; word = Stop; first = 0; second = 0 };
+}
+
+-- the text of a record: its line, but of an ST none
+abbrev pub underWay : Mode → Bool
+underWay Records = false
+underWay (Steps left taken) = true
+underWay Over = false
+
+abbrev pub textOf : Mode → Line → List ℕ
+textOf mode line = when (underWay mode) [] (lineOf line)

@@ -1,4 +1,4 @@
-// What each record but ST does and prints. A record that is refused has no effect: its line is the last.
+// What each record does and prints. A record that is refused has no effect: its line is the last.
 use crate::session::Effect;
 use crate::session::Mode;
 use crate::session::Session;
@@ -18,7 +18,7 @@ ghost use mathlib.Core.Path.{_≡_};
 ghost use Prim.Native.Nat.{_+_, _≤_};
 ghost use lib.ListN.{length};
 ghost use Rattle.kit.specs.Answer.{numberOf};
-ghost use Rattle.trace.specs.Effect.{effected, badOf, settingsOf, memoryOf, windowOf, writeOf, readOf, clockOf};
+ghost use Rattle.trace.specs.Effect.{OnMemory, OnWindows, badOf, settingsOf, memoryOf, windowOf, writeOf, readOf, stepsOf, clockOf};
 
 // The last good sequence number, the answer and the mark's position; the replay is over.
 pub fn bad(session: Session, answer: Answer, position: u64) -> Effect
@@ -70,7 +70,7 @@ pub fn memory(
     memory: &mut [u8],
 ) -> Effect
     requires { ⌜ from + count ≤ length (now input) ⌝ }
-    ensures { λ r. ⌜ effected r (now (memory .exit)) ≡ memoryOf session sequence address count position (now (input .entry)) from (now (memory .entry)) ⌝ }
+    ensures { λ r. ⌜ OnMemory (memoryOf session sequence address count position (now (input .entry)) from) (now (memory .entry)) r (now (memory .exit)) ⌝ }
 {
     let start = address as usize;
     let end = start + count as usize;
@@ -101,7 +101,7 @@ pub fn window(
     windows: &mut [u32],
 ) -> Effect
     requires { ⌜ 32 ≤ length (now windows) ⌝ }
-    ensures { λ r. ⌜ effected r (now (windows .exit)) ≡ windowOf session sequence start count position (now (windows .entry)) ⌝ }
+    ensures { λ r. ⌜ OnWindows (windowOf session sequence start count position) (now (windows .entry)) r (now (windows .exit)) ⌝ }
 {
     let used = session.windows as usize;
     if MOST_WINDOWS <= used {
@@ -172,6 +172,28 @@ pub fn register_read(session: Session, sequence: u32, offset: u32) -> Effect
         word: Word::NoRead,
         first: offset as u64,
         second: answer as u64,
+    };
+    Effect { session, line }
+}
+
+// The steps are still to be taken, and their lines to be put: the line here is not printed.
+pub fn steps(session: Session, sequence: u32, count: u32) -> Effect
+    ensures { λ r. ⌜ r ≡ stepsOf session sequence count ⌝ }
+{
+    let line = Line {
+        sequence,
+        word: Word::Stop,
+        first: 0,
+        second: 0,
+    };
+    let mode = Mode::Steps {
+        left: count,
+        taken: 0,
+    };
+    let session = Session {
+        sequence,
+        mode,
+        ..session
     };
     Effect { session, line }
 }

@@ -1,12 +1,17 @@
 // Turns on a part of a trace, as many as can be taken: until a record may be cut off by the part's end, the buffer
 // for the listing is full, or the replay is over.
+use crate::lines::lines;
 use crate::session::Mode;
 use crate::session::Session;
-use crate::turn::turn;
+use crate::session::under_way;
+use crate::turn::record_turn;
+use listing::line::Line;
 use listing::plain::put_line;
 ghost use mathlib.Core.Path.{_≡_};
 ghost use Prim.Native.Nat.{_+_, _≤_, _<_, _^_};
 ghost use lib.ListN.{length};
+ghost use Rattle.listing.specs.Puts.{Puts};
+ghost use Rattle.trace.specs.Effect.{textOf};
 ghost use Rattle.trace.specs.Pass.{readyOf, Passes};
 
 // The session after the turns, the bytes of the part that were used, and the bytes that were put.
@@ -36,6 +41,17 @@ fn ready(mode: Mode, left: usize, ended: bool) -> bool
             }
         }
     }
+}
+
+// Puts a record's line; an ST has none of its own.
+fn put_record(out: &mut [u8], at: usize, mode: Mode, line: Line) -> usize
+    requires { ⌜ at + 64 ≤ length (now out) ⌝ }
+    ensures { λ r. ⌜ Puts (now (out .entry)) (now (out .exit)) at r (textOf mode line) × (r ≤ at + 64) ⌝ }
+{
+    if under_way(mode) {
+        return at;
+    }
+    put_line(out, at, line)
 }
 
 // `base` is the place of the part in the whole trace, and `ended` says that the trace ends with it.
@@ -68,11 +84,19 @@ pub fn pass(
         if !ready(mode, input.len() - at, ended) {
             break;
         }
-        let turned = turn(session, base + at as u64, input, at, memory, windows);
-        let line = turned.line;
-        put = put_line(out, put, line);
-        at = turned.at;
-        session = turned.session;
+        if under_way(mode) {
+            let told = lines(session, memory, windows, out, put);
+            put = told.put;
+            session = told.session;
+        } else {
+            let turned = record_turn(session, base + at as u64, input, at, memory, windows);
+            let effect = turned.effect;
+            session = effect.session;
+            let mode = session.mode;
+            let line = effect.line;
+            put = put_record(out, put, mode, line);
+            at = turned.at;
+        }
     }
     Passed { session, at, put }
 }

@@ -5,7 +5,7 @@ use monitor::monitor::Monitor;
 use state::engine::Engine;
 use state::engine::fresh;
 ghost use mathlib.Core.Path.{_≡_};
-ghost use Rattle.trace.specs.Effect.{startOf};
+ghost use Rattle.trace.specs.Effect.{startOf, underWay};
 
 // Reading records, in the midst of an ST, or over after a bad line.
 pub enum Mode {
@@ -27,6 +27,17 @@ pub struct Session {
 pub struct Effect {
     pub session: Session,
     pub line: Line,
+}
+
+// Whether an ST is under way.
+pub fn under_way(mode: Mode) -> bool
+    ensures { λ r. ⌜ r ≡ underWay mode ⌝ }
+{
+    match mode {
+        Mode::Steps { left: _, taken: _ } => true,
+        Mode::Over => false,
+        Mode::Records => false,
+    }
 }
 
 // No windows, a fresh engine and monitor; without a CF record the width is 4 and the beats are 16.

@@ -2,4 +2,5 @@ pub mod Bytes
 pub mod Listing
 pub mod Measure
 pub mod Parts
+pub mod Progress
 pub mod Sound

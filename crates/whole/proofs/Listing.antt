@@ -2,7 +2,7 @@
 use mathlib.Core.Path.{_≡_, refl, sym, ap, ap₂, subst, _∙_}
 use mathlib.Core.Logic.{⊎-elim}
 use Prim.Native.Nat.{ℕ, zero, suc, _+_, _-_, _*_, _≤_, _<_}
-use native.Mathlib.Nat.{add-zero, add-suc}
+use native.Mathlib.Nat.{add-zero}
 use mathlib.Core.Bool.{Bool, true, false}
 use mathlib.Core.List.{List, [], _++_, append-assoc, append-nil}
 use native.Mathlib.Omega.{arith}
@@ -17,7 +17,9 @@ use Rattle.record.specs.Claims.{longest}
 use Rattle.trace.specs.declared.session.Mode.{Mode}
 use Rattle.trace.specs.declared.session.Mode.the-variants as modes
 use Rattle.trace.specs.declared.session.Session.{Session}
-use Rattle.trace.specs.Pass.{readyOf, readyIn, lineRoom, Replay, begin, turnOn, turnsOf}
+use Rattle.trace.specs.Effect.{Lent, lend}
+use Rattle.trace.specs.Pass.{readyOf, readyIn, lineRoom, Replay, replayAs, beginWith, turnOn, turnsOf}
+use Rattle.trace.proofs.Turns.{turns-join}
 use Rattle.whole.specs.Listing.{atStart, listFrom, mostTurns, listingOf, Replays, begun, passed, Listing}
 use Rattle.whole.proofs.Parts.{seenIn, parts, turns-within}
 use Rattle.whole.proofs.Measure.{measureOf, turn-less}
@@ -55,11 +57,6 @@ list-enough (suc n) k input r h =
     (λ e. list-turn (n + k) input r e ∙ list-enough n k input (turnOn 0 input r) (omega (arith, turn-less input r e)) ∙ sym (list-turn n input r e))
     (λ e. list-stop (suc (n + k)) input r e ∙ sym (list-stop (suc n) input r e)) (decide (readyIn input true r))
 
-turns-join : (n j base : ℕ) (input : List ℕ) (r : Replay) → turnsOf (n + j) base input r ≡ turnsOf j base input (turnsOf n base input r)
-unfolding turnsOf
-turns-join n zero base input r = ap (λ (k : ℕ). turnsOf k base input r) (add-zero n)
-turns-join n (suc j) base input r = ap (λ (k : ℕ). turnsOf k base input r) (add-suc n j) ∙ ap (turnOn base input) (turns-join n j base input r)
-
 -- ---- a part in the whole
 
 module _ (input part rest : List ℕ) (place : ℕ) (ended : Bool) (within : place ≤ length input) (split : drop place input ≡ part ++ rest)
@@ -77,24 +74,17 @@ module _ (input part rest : List ℕ) (place : ℕ) (ended : Bool) (within : pla
   ready-whole (modes.Steps n taken) at e = refl
   ready-whole modes.Over at e = e
 
-  module _ (s : Session) (m w text : List ℕ) where
-    here : Replay
-    here = record { session = s; at = place; memory = m; windows = w; text = text }
-
-    here-is : seenIn place text (begin s m w) ≡ here
-    unfolding here
-    here-is = ap₂ {C = Replay} (λ (a : ℕ) (l : List ℕ). record { session = s; at = a; memory = m; windows = w; text = l }) (add-zero place) (append-nil text)
-
-    part-turns : (n : ℕ) → ((k : ℕ) → k < n → readyIn part ended (turnsOf k place part (begin s m w)) ≡ true)
-        → turnsOf n 0 input here ≡ seenIn place text (turnsOf n place part (begin s m w))
+  module _ (s : Session) (lent : Lent) (text : List ℕ) where
+    part-turns : (n : ℕ) → ((k : ℕ) → k < n → readyIn part ended (turnsOf k place part (beginWith s lent)) ≡ true)
+        → turnsOf n 0 input (replayAs s place lent text) ≡ seenIn place text (turnsOf n place part (beginWith s lent))
     part-turns n ready =
         let long : length (take place input) ≡ place = length-take-le place input within in
         let whole : take place input ++ (part ++ rest) ≡ input = ap (λ (l : List ℕ). take place input ++ l) (sym split) ∙ take-append-drop place input in
-        ap (turnsOf n 0 input) (sym here-is)
-        ∙ subst (λ (l : List ℕ). turnsOf n 0 l (seenIn place text (begin s m w)) ≡ seenIn place text (turnsOf n place part (begin s m w))) whole
-        (subst (λ (d : ℕ). ((k : ℕ) → k < n → readyIn part ended (turnsOf k d part (begin s m w)) ≡ true)
-        → turnsOf n 0 (take place input ++ (part ++ rest)) (seenIn d text (begin s m w)) ≡ seenIn d text (turnsOf n d part (begin s m w))) long
-        (parts (take place input) part rest text ended (begin s m w) n last (omega arith)) ready)
+        ap (turnsOf n 0 input) (sym (ap₂ (λ (a : ℕ) (l : List ℕ). replayAs s a lent l) (add-zero place) (append-nil text)))
+        ∙ subst (λ (l : List ℕ). turnsOf n 0 l (seenIn place text (beginWith s lent)) ≡ seenIn place text (turnsOf n place part (beginWith s lent))) whole
+        (subst (λ (d : ℕ). ((k : ℕ) → k < n → readyIn part ended (turnsOf k d part (beginWith s lent)) ≡ true)
+        → turnsOf n 0 (take place input ++ (part ++ rest)) (seenIn d text (beginWith s lent)) ≡ seenIn d text (turnsOf n d part (beginWith s lent))) long
+        (parts (take place input) part rest text ended (beginWith s lent) n last (omega arith)) ready)
 
 -- ---- replays
 
@@ -104,11 +94,11 @@ record Seen (input : List ℕ) (place : ℕ) (s : Session) (m w text : List ℕ)
   lines : List ℕ
   said : text ≡ headerOf ++ lines
   ready : (k : ℕ) → k < turns → readyIn input true (turnsOf k 0 input atStart) ≡ true
-  ends : record { session = s; at = place; memory = m; windows = w; text = lines } ≡ turnsOf turns 0 input atStart
+  ends : replayAs s place (lend m w) lines ≡ turnsOf turns 0 input atStart
   within : place ≤ length input
 
 seen : {input : List ℕ} {place : ℕ} {s : Session} {m w text : List ℕ} → Replays input place s m w text → Seen input place s m w text
-unfolding turnsOf here
+unfolding turnsOf
 seen begun = record {
   turns = 0;
   lines = [];
@@ -118,14 +108,15 @@ seen begun = record {
   within = omega arith;
 }
 seen {input} (passed {place} {s} {m} {w} {text} before part rest ended split last out r m′ w′ out′ p) =
+    let lent = lend m w in
     let h = seen before in
-    let can : (k : ℕ) → k < p .turns → readyIn part ended (turnsOf k place part (begin s m w)) ≡ true =
-    λ k i. both-right (leb (length (turnsOf k place part (begin s m w) .text) + lineRoom) (length out)) (readyIn part ended (turnsOf k place part (begin s m w))) (p .goes k i) in
-    let on : (j : ℕ) → j ≤ p .turns → turnsOf (h .turns + j) 0 input atStart ≡ seenIn place (h .lines) (turnsOf j place part (begin s m w)) =
+    let can : (k : ℕ) → k < p .turns → readyIn part ended (turnsOf k place part (beginWith s lent)) ≡ true =
+    λ k i. both-right (leb (length (turnsOf k place part (beginWith s lent) .text) + lineRoom) (length out)) (readyIn part ended (turnsOf k place part (beginWith s lent))) (p .goes k i) in
+    let on : (j : ℕ) → j ≤ p .turns → turnsOf (h .turns + j) 0 input atStart ≡ seenIn place (h .lines) (turnsOf j place part (beginWith s lent)) =
     λ j i. turns-join (h .turns) j 0 input atStart ∙ ap (turnsOf j 0 input) (sym (h .ends))
-    ∙ part-turns input part rest place ended (h .within) split last s m w (h .lines) j (λ k l. can k (omega arith)) in
+    ∙ part-turns input part rest place ended (h .within) split last s lent (h .lines) j (λ k l. can k (omega arith)) in
     let inside : r .at ≤ length part =
-    subst (λ (x : Replay). x .at ≤ length part) (sym (p .ends)) (turns-within place part (begin s m w) (p .turns) (omega arith)) in
+    subst (λ (x : Replay). x .at ≤ length part) (sym (p .ends)) (turns-within place part (beginWith s lent) (p .turns) (omega arith)) in
     record {
       turns = h .turns + p .turns;
       lines = h .lines ++ p .text;
@@ -135,7 +126,7 @@ seen {input} (passed {place} {s} {m} {w} {text} before part rest ended split las
           let same : h .turns + j ≡ k = omega (arith, ltb-false k (h .turns) e) in
           subst (λ (n : ℕ). readyIn input true (turnsOf n 0 input atStart) ≡ true) same
           (subst (λ (x : Replay). readyIn input true x ≡ true) (sym (on j (omega (arith, ltb-false k (h .turns) e))))
-          (ready-whole input part rest place ended (h .within) split last (turnsOf j place part (begin s m w) .session .mode) (turnsOf j place part (begin s m w) .at)
+          (ready-whole input part rest place ended (h .within) split last (turnsOf j place part (beginWith s lent) .session .mode) (turnsOf j place part (beginWith s lent) .at)
           (can j (omega (arith, ltb-false k (h .turns) e))))))
           (decide (ltb k (h .turns)));
       ends = ap (seenIn place (h .lines)) (p .ends) ∙ sym (on (p .turns) (omega arith));

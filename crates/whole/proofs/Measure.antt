@@ -4,15 +4,13 @@ use Prim.Native.Nat.{ℕ, suc, _+_, _-_, _*_, _≤_, _<_}
 use mathlib.Core.Bool.{Bool, true, false}
 use mathlib.Core.List.{List}
 use native.Mathlib.Omega.{arith}
-use lib.ListN.{length, take}
+use lib.ListN.{length}
 use lib.Dec.{eqb, leb, ltb}
 use borrow.Author.Tests.{leb-false, ltb-true}
+use Rattle.kit.specs.Choice.{either}
 use Rattle.kit.specs.Limits.{mostWindows}
 use Rattle.kit.specs.Settings.{legalSettings}
 use Rattle.kit.proofs.Choice.{cases, never}
-use Rattle.state.specs.declared.engine.Engine.{Engine}
-use Rattle.steps.specs.declared.event.Event.{Event}
-use Rattle.steps.specs.Run.{AfterStep, stepOf}
 use Rattle.monitor.specs.Monitor.{busClockOf}
 use Rattle.record.specs.declared.reading.Body.{Body}
 use Rattle.record.specs.declared.reading.Body.the-variants.{Settings, Memory, Window, Write, Read, Steps, Clock}
@@ -23,10 +21,10 @@ use Rattle.trace.specs.declared.session.Mode.{Mode}
 use Rattle.trace.specs.declared.session.Mode.the-variants as modes
 use Rattle.trace.specs.declared.session.Session.{Session}
 use Rattle.trace.specs.declared.session.Effect.{Effect}
-use Rattle.trace.specs.Effect.{Effected, withSequence}
-use Rattle.trace.specs.Stepping.{usedOf, mostSteps, isNone, afterStep, steppingOf}
-use Rattle.trace.specs.Turn.{applyOf, Turn, recordBy, turnBy, turnOf}
-use Rattle.trace.specs.Pass.{readyOf, readyIn, Replay, turnOn}
+use Rattle.trace.specs.Effect.{Lent, After}
+use Rattle.trace.specs.Stepping.{mostSteps, stopsOf, acceptedOf, stepLineOf}
+use Rattle.trace.specs.Turn.{applyOf, Turn, recordBy}
+use Rattle.trace.specs.Pass.{readyOf, readyIn, Replay, turnBy, turnOn}
 use Rattle.trace.proofs.Records.{inside}
 use Rattle.whole.specs.Listing.{mostTurns}
 
@@ -36,26 +34,19 @@ measure left modes.Records = mostTurns * left
 measure left (modes.Steps n taken) = mostTurns * left + suc (mostSteps - taken)
 measure left modes.Over = 0
 
--- a line of an ST that has `taken` steps leaves fewer
-stepping-less : (s : Session) (n taken : ℕ) (m w : List ℕ) (left : ℕ)
-    → measure left (steppingOf s n taken m w .effect .session .mode) < mostTurns * left + suc (mostSteps - taken)
-stepping-less s n taken m w left =
-    cases P (eqb n 0) (λ _. omega arith)
-    (λ _. cases P (leb mostSteps taken) (λ _. omega arith) (λ more. stepped more (r .event) (r .engine)))
-  where
-    r : AfterStep
-    r = stepOf (s .engine) m (take (usedOf (s .windows)) w)
+neither : (t u : Bool) → either t u ≡ false → (t ≡ false) × (u ≡ false)
+neither true u e = absurd (never (sym e))
+neither false u e = (refl, e)
 
-    P : Effected → Type 0
-    P e = measure left (e .effect .session .mode) < mostTurns * left + suc (mostSteps - taken)
+-- a line of an ST that has taken `taken` steps leaves fewer
+step-less : (s : Session) (n taken : ℕ) (lent : Lent) (left : ℕ)
+    → measure left (stepLineOf s n taken lent .effect .session .mode) < mostTurns * left + suc (mostSteps - taken)
+step-less s n taken lent left =
+    cases (λ (a : After). measure left (a .effect .session .mode) < mostTurns * left + suc (mostSteps - taken))
+    (stopsOf (s .engine .phase) n taken (acceptedOf (s .engine) (s .windows) (length (lent .memory)))) (λ _. omega arith)
+    (λ go. omega (arith, leb-false mostSteps taken (neither (leb mostSteps taken) _ (neither (eqb n 0) _ go .1) .0)))
 
-    stepped : leb mostSteps taken ≡ false → (event : Event) (e : Engine)
-        → measure left (afterStep s n taken event e .session .mode) < mostTurns * left + suc (mostSteps - taken)
-    stepped more event e =
-        cases (λ (x : Effect). measure left (x .session .mode) < mostTurns * left + suc (mostSteps - taken)) (isNone event) (λ _. omega arith)
-        (λ _. omega (arith, leb-false mostSteps taken more))
-
-module _ (s : Session) (position : ℕ) (input : List ℕ) (at : ℕ) (m w : List ℕ) (reads : s .mode ≡ modes.Records) where
+module _ (s : Session) (position : ℕ) (input : List ℕ) (at : ℕ) (lent : Lent) (reads : s .mode ≡ modes.Records) where
   -- a record that was read to `next`
   module _ (next : ℕ) (on : at < next) (within : next ≤ length input) where
     abbrev Less : Effect → Type 0
@@ -69,36 +60,36 @@ module _ (s : Session) (position : ℕ) (input : List ℕ) (at : ℕ) (m w : Lis
         let less : mostTurns * (length input - next) < mostTurns * (length input - at) = omega arith in
         subst (λ (mode : Mode). measure (length input - next) mode < mostTurns * (length input - at)) (sym reads) less
 
-    apply-less : (n : ℕ) (b : Body) → Less (applyOf s n position input at m w b .effect)
+    apply-less : (n : ℕ) (b : Body) → Less (applyOf s n position input at lent b .effect)
     unfolding applyOf
     apply-less n (Settings width beats) = cases Less (legalSettings width beats) (λ _. stays) (λ _. over)
-    apply-less n (Memory address count) = cases (λ (e : Effected). Less (e .effect)) (ltb (length m) (address + count)) (λ _. over) (λ _. stays)
-    apply-less n (Window start count) = cases (λ (e : Effected). Less (e .effect)) (leb mostWindows (s .windows)) (λ _. over) (λ _. stays)
+    apply-less n (Memory address count) = cases (λ (a : After). Less (a .effect)) (ltb (length (lent .memory)) (address + count)) (λ _. over) (λ _. stays)
+    apply-less n (Window start count) = cases (λ (a : After). Less (a .effect)) (leb mostWindows (s .windows)) (λ _. over) (λ _. stays)
     apply-less n (Write offset value) = stays
     apply-less n (Read offset) = stays
-    apply-less n (Steps count) = omega (arith, stepping-less (withSequence s n) count 0 m w (length input - next))
+    apply-less n (Steps count) = omega arith
     apply-less n (Clock bits clock) =
         cases Less (ltb 7 bits) (λ _. over)
         (λ _. cases Less (eqb (busClockOf (s .monitor) (s .engine .settings .width) (s .engine .settings .beats) clock .number) 0) (λ _. stays) (λ _. over))
 
   record-less : 0 < length input - at → (v : Reading) → readingOf input at (eqb position 0) ≡ v
-      → (let t = recordBy s position input at m w v in measure (length input - t .at) (t .session .mode)) < mostTurns * (length input - at)
+      → (let t = recordBy s position input at lent v in measure (length input - t .at) (t .effect .session .mode)) < mostTurns * (length input - at)
   record-less some Refused e = omega arith
   record-less some (Found r next) e =
       let i = inside input at (eqb position 0) r next e in
-      cases (λ (t : Turn). measure (length input - t .at) (t .session .mode) < mostTurns * (length input - at)) (leb (r .sequence) (s .sequence)) (λ _. omega arith)
+      cases (λ (t : Turn). measure (length input - t .at) (t .effect .session .mode) < mostTurns * (length input - at)) (leb (r .sequence) (s .sequence)) (λ _. omega arith)
       (λ _. apply-less next (i .0) (i .1) (r .sequence) (r .body))
 
 abbrev pub measureOf : List ℕ → Replay → ℕ
 measureOf input r = measure (length input - r .at) (r .session .mode)
 
 pub turn-less : (input : List ℕ) (r : Replay) → readyIn input true r ≡ true → measureOf input (turnOn 0 input r) < measureOf input r
-unfolding turnOn turnOf
+unfolding turnOn
 turn-less input r ready = go (r .session .mode) refl ready
   where
     go : (mode : Mode) → r .session .mode ≡ mode → readyOf mode (length input - r .at) true ≡ true
-        → (let t = turnBy (r .session) (0 + r .at) input (r .at) (r .memory) (r .windows) mode in measure (length input - t .at) (t .session .mode))
-        < measure (length input - r .at) mode
-    go modes.Records e f = record-less (r .session) (0 + r .at) input (r .at) (r .memory) (r .windows) e (ltb-true 0 (length input - r .at) f) (readingOf input (r .at) (eqb (0 + r .at) 0)) refl
-    go (modes.Steps n taken) e f = stepping-less (r .session) n taken (r .memory) (r .windows) (length input - r .at)
+        → measureOf input (turnBy 0 input r mode) < measure (length input - r .at) mode
+    go modes.Records e f =
+        record-less (r .session) (0 + r .at) input (r .at) (r .lent) e (ltb-true 0 (length input - r .at) f) (readingOf input (r .at) (eqb (0 + r .at) 0)) refl
+    go (modes.Steps n taken) e f = step-less (r .session) n taken (r .lent) (length input - r .at)
     go modes.Over e f = absurd (never f)

@@ -25,66 +25,65 @@ use Rattle.trace.specs.declared.session.Mode.{Mode}
 use Rattle.trace.specs.declared.session.Mode.the-variants as modes
 use Rattle.trace.specs.declared.session.Session.{Session}
 use Rattle.listing.specs.declared.word.Word.the-variants as words
-use Rattle.trace.specs.Effect.{effected, badOf, withSequence}
-use Rattle.trace.specs.Turn.{DataFits, Applied, applied, onMemory, applyOf, Turn, turnAs, recordBy, turnBy, turnOf}
-use Rattle.trace.specs.Pass.{readyOf, readyIn, Replay, turnOn, turnsOf}
+use Rattle.trace.specs.Effect.{Lent, lend, After, after, textOf, badOf, withSequence}
+use Rattle.trace.specs.Stepping.{stepLineOf}
+use Rattle.trace.specs.Turn.{DataFits, applyOf, Turn, turnAs, recordBy, recordTurnOf}
+use Rattle.trace.specs.Pass.{readyOf, readyIn, Replay, replayAs, recordOn, turnBy, turnOn, turnsOf}
 use Rattle.trace.proofs.Records.{data-fits}
-use Rattle.trace.proofs.Lengths.{turn-kept}
+use Rattle.trace.proofs.Turns.{turns-kept}
 
 -- a replay of a part, seen in the whole trace: `place` bytes and the lines `text` came before it
 abbrev pub seenIn : ℕ → List ℕ → Replay → Replay
-seenIn place text r = record { session = r .session; at = place + r .at; memory = r .memory; windows = r .windows; text = text ++ r .text }
+seenIn place text r = replayAs (r .session) (place + r .at) (r .lent) (text ++ r .text)
 
 -- the turn, its next place reckoned from d bytes before
 later : ℕ → Turn → Turn
-later d t = record { session = t .session; line = t .line; at = d + t .at; memory = t .memory; windows = t .windows }
+later d t = record { effect = t .effect; at = d + t .at; lent = t .lent }
 
 twice-shifted : (d e : ℕ) (v : Reading) → shifted (d + e) v ≡ shifted d (shifted e v)
 twice-shifted d e (Found r n) = ap (Found r) (add-assoc d e n)
 twice-shifted d e Refused = refl
 
-module _ (before part after : List ℕ) where
-  drop-whole : (k : ℕ) → k ≤ length part → drop (length before + k) (before ++ (part ++ after)) ≡ drop k part ++ after
-  drop-whole k h = drop-append-add before (part ++ after) k ∙ drop-append-le k part after h
+module _ (before part after′ : List ℕ) where
+  drop-whole : (k : ℕ) → k ≤ length part → drop (length before + k) (before ++ (part ++ after′)) ≡ drop k part ++ after′
+  drop-whole k h = drop-append-add before (part ++ after′) k ∙ drop-append-le k part after′ h
 
   -- where a whole record is left, or nothing follows the part, reading sees the part alone
-  reading-part : (at : ℕ) (ended first : Bool) → (ended ≡ true → after ≡ []) → at ≤ length part
+  reading-part : (at : ℕ) (ended first : Bool) → (ended ≡ true → after′ ≡ []) → at ≤ length part
       → when ended (ltb 0 (length part - at)) (leb longest (length part - at)) ≡ true
-      → readingOf (before ++ (part ++ after)) (length before + at) first ≡ shifted (length before) (readingOf part at first)
+      → readingOf (before ++ (part ++ after′)) (length before + at) first ≡ shifted (length before) (readingOf part at first)
   reading-part at ended first last h ready =
-      claims .dropped (before ++ (part ++ after)) (length before + at) first
-      (omega (arith, length-append before (part ++ after), length-append part after))
+      claims .dropped (before ++ (part ++ after′)) (length before + at) first
+      (omega (arith, length-append before (part ++ after′), length-append part after′))
       ∙ ap (λ (l : List ℕ). shifted (length before + at) (readingOf l 0 first)) (drop-whole at h)
       ∙ ap (shifted (length before + at)) (go ended refl)
       ∙ twice-shifted (length before) at (readingOf (drop at part) 0 first)
       ∙ ap (shifted (length before)) (sym (claims .dropped part at first h))
     where
-      go : (t : Bool) → ended ≡ t → readingOf (drop at part ++ after) 0 first ≡ readingOf (drop at part) 0 first
+      go : (t : Bool) → ended ≡ t → readingOf (drop at part ++ after′) 0 first ≡ readingOf (drop at part) 0 first
       go true e = ap (λ (l : List ℕ). readingOf (drop at part ++ l) 0 first) (last e) ∙ ap (λ (l : List ℕ). readingOf l 0 first) (append-nil (drop at part))
       go false e =
           let room = leb-true longest (length part - at) (subst (λ (t : Bool). when t (ltb 0 (length part - at)) (leb longest (length part - at)) ≡ true) e ready) in
-          claims .settled (drop at part) after 0 first (omega (arith, length-drop at part))
+          claims .settled (drop at part) after′ 0 first (omega (arith, length-drop at part))
 
   -- a record's data are the part's
   data-part : (at count : ℕ) → at + 12 + count ≤ length part
-      → take count (drop (length before + at + 12) (before ++ (part ++ after))) ≡ take count (drop (at + 12) part)
+      → take count (drop (length before + at + 12) (before ++ (part ++ after′))) ≡ take count (drop (at + 12) part)
   data-part at count h =
-      ap (λ (k : ℕ). take count (drop k (before ++ (part ++ after)))) (add-assoc (length before) at 12)
+      ap (λ (k : ℕ). take count (drop k (before ++ (part ++ after′)))) (add-assoc (length before) at 12)
       ∙ ap (take count) (drop-whole (at + 12) (omega arith))
-      ∙ take-append-le count (drop (at + 12) part) after (omega (arith, length-drop (at + 12) part))
+      ∙ take-append-le count (drop (at + 12) part) after′ (omega (arith, length-drop (at + 12) part))
 
-  module _ (s : Session) (position : ℕ) (m w : List ℕ) where
+  module _ (s : Session) (position : ℕ) (lent : Lent) where
     -- an MM record, by its data
-    stored : ℕ → ℕ → ℕ → List ℕ → Applied
+    stored : ℕ → ℕ → ℕ → List ℕ → After
     stored n address count bytes =
-        onMemory
-        (when (ltb (length m) (address + count)) (effected (badOf s (numberOf answers.MemoryEnd) position) m)
-        (effected (record { session = withSequence s n; line = record { sequence = n; word = words.Memory; first = address; second = count } })
-        (sets m address bytes)))
-        w
+        when (ltb (length (lent .memory)) (address + count)) (after (badOf s (numberOf answers.MemoryEnd) position) lent)
+        (after (record { session = withSequence s n; line = record { sequence = n; word = words.Memory; first = address; second = count } })
+        (lend (sets (lent .memory) address bytes) (lent .windows)))
 
     apply-part : (n at : ℕ) (b : Body) → DataFits part at b
-        → applyOf s n position (before ++ (part ++ after)) (length before + at) m w b ≡ applyOf s n position part at m w b
+        → applyOf s n position (before ++ (part ++ after′)) (length before + at) lent b ≡ applyOf s n position part at lent b
     unfolding applyOf stored
     apply-part n at (Settings width beats) h = refl
     apply-part n at (Memory address count) h = ap (stored n address count) (data-part at count h)
@@ -95,64 +94,59 @@ module _ (before part after : List ℕ) where
     apply-part n at (Clock bits clock) h = refl
 
     record-part : (at : ℕ) (v : Reading) → readingOf part at (eqb position 0) ≡ v
-        → recordBy s position (before ++ (part ++ after)) (length before + at) m w (shifted (length before) v)
-        ≡ later (length before) (recordBy s position part at m w v)
+        → recordBy s position (before ++ (part ++ after′)) (length before + at) lent (shifted (length before) v)
+        ≡ later (length before) (recordBy s position part at lent v)
     unfolding later
     record-part at Refused e = refl
     record-part at (Found r n) e = go (leb (r .sequence) (s .sequence))
       where
+        refused : After
+        refused = after (badOf s (numberOf answers.Sequence) position) lent
+
         go : (t : Bool)
-            → when t (turnAs (applied (badOf s (numberOf answers.Sequence) position) m w) (length before + at))
-            (turnAs (applyOf s (r .sequence) position (before ++ (part ++ after)) (length before + at) m w (r .body)) (length before + n))
-            ≡ later (length before)
-            (when t (turnAs (applied (badOf s (numberOf answers.Sequence) position) m w) at) (turnAs (applyOf s (r .sequence) position part at m w (r .body)) n))
+            → when t (turnAs refused (length before + at))
+            (turnAs (applyOf s (r .sequence) position (before ++ (part ++ after′)) (length before + at) lent (r .body)) (length before + n))
+            ≡ later (length before) (when t (turnAs refused at) (turnAs (applyOf s (r .sequence) position part at lent (r .body)) n))
         go true = refl
-        go false = ap (λ (a : Applied). turnAs a (length before + n)) (apply-part (r .sequence) at (r .body) (data-fits part at (eqb position 0) r n e))
+        go false = ap (λ (a : After). turnAs a (length before + n)) (apply-part (r .sequence) at (r .body) (data-fits part at (eqb position 0) r n e))
 
-    turn-part : (at : ℕ) (ended : Bool) → (ended ≡ true → after ≡ []) → at ≤ length part → readyOf (s .mode) (length part - at) ended ≡ true
-        → turnOf s position (before ++ (part ++ after)) (length before + at) m w ≡ later (length before) (turnOf s position part at m w)
-    unfolding turnOf later
-    turn-part at ended last h ready = go (s .mode) ready
-      where
-        go : (mode : Mode) → readyOf mode (length part - at) ended ≡ true
-            → turnBy s position (before ++ (part ++ after)) (length before + at) m w mode ≡ later (length before) (turnBy s position part at m w mode)
-        go modes.Records e =
-            ap (recordBy s position (before ++ (part ++ after)) (length before + at) m w) (reading-part at ended (eqb position 0) last h e)
-            ∙ record-part at (readingOf part at (eqb position 0)) refl
-        go (modes.Steps left taken) e = refl
-        go modes.Over e = absurd (never e)
+    reading-turn : (at : ℕ) (ended : Bool) → (ended ≡ true → after′ ≡ []) → at ≤ length part → readyOf modes.Records (length part - at) ended ≡ true
+        → recordTurnOf s position (before ++ (part ++ after′)) (length before + at) lent ≡ later (length before) (recordTurnOf s position part at lent)
+    reading-turn at ended last h e =
+        ap (recordBy s position (before ++ (part ++ after′)) (length before + at) lent) (reading-part at ended (eqb position 0) last h e)
+        ∙ record-part at (readingOf part at (eqb position 0)) refl
 
-  on-part : (text : List ℕ) (ended : Bool) (r : Replay) → (ended ≡ true → after ≡ []) → r .at ≤ length part → readyIn part ended r ≡ true
-      → turnOn 0 (before ++ (part ++ after)) (seenIn (length before) text r) ≡ seenIn (length before) text (turnOn (length before) part r)
+  on-part : (text : List ℕ) (ended : Bool) (r : Replay) → (ended ≡ true → after′ ≡ []) → r .at ≤ length part → readyIn part ended r ≡ true
+      → turnOn 0 (before ++ (part ++ after′)) (seenIn (length before) text r) ≡ seenIn (length before) text (turnOn (length before) part r)
   unfolding turnOn later
-  on-part text ended r last h ready =
-      let place : 0 + (length before + r .at) ≡ length before + r .at = omega arith in
-      ap (shown text r)
-      (ap (λ (k : ℕ). turnOf (r .session) k (before ++ (part ++ after)) (length before + r .at) (r .memory) (r .windows)) place
-      ∙ turn-part (r .session) (length before + r .at) (r .memory) (r .windows) (r .at) ended last h ready)
-      ∙ ap (spoken (later (length before) (turnOf (r .session) (length before + r .at) part (r .at) (r .memory) (r .windows))))
-      (append-assoc text (r .text) (lineOf (turnOf (r .session) (length before + r .at) part (r .at) (r .memory) (r .windows) .line)))
+  on-part text ended r last h ready = go (r .session .mode) ready
     where
-      spoken : Turn → List ℕ → Replay
-      spoken t l = record { session = t .session; at = t .at; memory = t .memory; windows = t .windows; text = l }
+      place : 0 + (length before + r .at) ≡ length before + r .at
+      place = omega arith
 
-      shown : List ℕ → Replay → Turn → Replay
-      shown text r t = record { session = t .session; at = t .at; memory = t .memory; windows = t .windows; text = (text ++ r .text) ++ lineOf (t .line) }
+      go : (mode : Mode) → readyOf mode (length part - r .at) ended ≡ true
+          → turnBy 0 (before ++ (part ++ after′)) (seenIn (length before) text r) mode ≡ seenIn (length before) text (turnBy (length before) part r mode)
+      go modes.Records e =
+          let t = recordTurnOf (r .session) (length before + r .at) part (r .at) (r .lent) in
+          ap (recordOn (seenIn (length before) text r))
+          (ap (λ (k : ℕ). recordTurnOf (r .session) k (before ++ (part ++ after′)) (length before + r .at) (r .lent)) place
+          ∙ reading-turn (r .session) (length before + r .at) (r .lent) (r .at) ended last h e)
+          ∙ ap (replayAs (t .effect .session) (length before + t .at) (t .lent)) (append-assoc text (r .text) (textOf (t .effect .session .mode) (t .effect .line)))
+      go (modes.Steps left taken) e =
+          let a = stepLineOf (r .session) left taken (r .lent) in
+          ap (replayAs (a .effect .session) (length before + r .at) (a .lent)) (append-assoc text (r .text) (lineOf (a .effect .line)))
+      go modes.Over e = absurd (never e)
 
 pub turns-within : (base : ℕ) (part : List ℕ) (r : Replay) (n : ℕ) → r .at ≤ length part → turnsOf n base part r .at ≤ length part
-unfolding turnsOf turnOn
-turns-within base part r zero h = h
-turns-within base part r (suc n) h =
-    let q = turnsOf n base part r in
-    turn-kept (q .session) (base + q .at) part (q .at) (q .memory) (q .windows) (turns-within base part r n h) .within
+turns-within base part r n h = turns-kept n base part r h .within
 
 -- turns that could be taken on a part are turns of the whole: the same lines, and the same session, memory and windows
 -- after them. Where the part is said to be the last, nothing follows it.
-pub parts : (before part after text : List ℕ) (ended : Bool) (r : Replay) (n : ℕ) → (ended ≡ true → after ≡ []) → r .at ≤ length part
+pub parts : (before part after′ text : List ℕ) (ended : Bool) (r : Replay) (n : ℕ) → (ended ≡ true → after′ ≡ []) → r .at ≤ length part
     → ((k : ℕ) → k < n → readyIn part ended (turnsOf k (length before) part r) ≡ true)
-    → turnsOf n 0 (before ++ (part ++ after)) (seenIn (length before) text r) ≡ seenIn (length before) text (turnsOf n (length before) part r)
+    → turnsOf n 0 (before ++ (part ++ after′)) (seenIn (length before) text r) ≡ seenIn (length before) text (turnsOf n (length before) part r)
 unfolding turnsOf
-parts before part after text ended r zero last h ready = refl
-parts before part after text ended r (suc n) last h ready =
-    ap (turnOn 0 (before ++ (part ++ after))) (parts before part after text ended r n last h (λ k i. ready k (omega arith)))
-    ∙ on-part before part after text ended (turnsOf n (length before) part r) last (turns-within (length before) part r n h) (ready n (omega arith))
+parts before part after′ text ended r zero last h ready = refl
+parts before part after′ text ended r (suc n) last h ready =
+    ap (turnOn 0 (before ++ (part ++ after′))) (parts before part after′ text ended r n last h (λ k i. ready k (omega arith)))
+    ∙ on-part before part after′ text ended (turnsOf n (length before) part r) last (turns-within (length before) part r n h) (ready n (omega arith))

@@ -7,20 +7,20 @@ use native.Mathlib.Omega.{arith}
 use lib.ListN.{length, take, drop, set, length-set, length-append, length-replicate}
 use lib.Seq.{sets, length-sets, length-take-le, take-append-seam}
 use lib.Dec.{eqb, leb, ltb}
-use borrow.Author.Tests.{leb-false, le-ltb}
+use borrow.Author.Tests.{eq-eqb, leb-false, le-ltb}
 use Rattle.kit.specs.Choice.{when, both}
 use Rattle.kit.specs.Limits.{mostMemory, mostWindows, addressEnd}
 use Rattle.kit.specs.Settings.{legalWidth, legalBeats, legalOf, legalSettings}
 use Rattle.kit.proofs.Choice.{yes, no, cases, never}
+use Rattle.memory.specs.declared.window.Window.{Window as Window′}
 use Rattle.memory.specs.Windows.{windowsOf}
 use Rattle.state.specs.declared.engine.Engine.{Engine}
 use Rattle.state.specs.State.{freshOf, wellFormedOf}
 use Rattle.state.proofs.WellFormed.{fresh-well-formed}
 use Rattle.registers.specs.Write as registers-written
 use Rattle.registers.proofs.Writes.{write-keeps-settings, write-keeps-words, write-keeps-well-formed}
-use Rattle.steps.specs.declared.event.Event.{Event}
-use Rattle.steps.specs.Step.{AfterAdvance}
-use Rattle.steps.specs.Run.{AfterStep, stepOf, refusalOf}
+use Rattle.steps.specs.Step.{advanceOf}
+use Rattle.steps.specs.Run.{refusalOf}
 use Rattle.steps.proofs.Keeps.{advance-keeps, advance-well-formed}
 use Rattle.steps.proofs.Stored.{take-bytes, drop-bytes, sets-bytes}
 use Rattle.monitor.specs.Monitor.{busClockOf}
@@ -36,10 +36,11 @@ use Rattle.trace.specs.declared.session.Mode.the-variants as modes
 use Rattle.trace.specs.declared.session.Session.{Session}
 use Rattle.trace.specs.declared.session.Effect.{Effect}
 use Rattle.trace.specs.declared.pass.Passed.{Passed}
-use Rattle.trace.specs.Effect.{startOf, Effected, withSequence}
-use Rattle.trace.specs.Stepping.{usedOf, mostSteps, isNone, afterStep, steppingOf}
-use Rattle.trace.specs.Turn.{Applied, applyOf, Turn, recordBy, turnBy, turnOf}
-use Rattle.trace.specs.Pass.{readyOf, lineRoom, Replay, begin, turnOn, turnsOf, Passes}
+use Rattle.trace.specs.Effect.{startOf, Lent, After}
+use Rattle.trace.specs.Stepping.{usedOf, stopsOf, acceptedOf, stepLineOf}
+use Rattle.trace.specs.Turn.{applyOf, Turn, recordBy}
+use Rattle.trace.specs.Pass.{readyOf, lineRoom, Replay, begin, turnBy, turnOn, turnsOf, Passes}
+use Rattle.trace.proofs.Turns.{both-no}
 use Rattle.trace.proofs.Unique.{pass-unique}
 use Rattle.whole.specs.Listing.{startMemory, startWindows, Replays, begun, passed}
 use Rattle.whole.specs.Sound.{Sound, SoundIn, Sessions}
@@ -58,49 +59,19 @@ start = record {
   room = length-replicate {A = ℕ} (2 * mostWindows) 0;
 }
 
+abbrev SoundAs : Session → Lent → Type 0
+SoundAs s lent = SoundIn s (lent .memory) (lent .windows)
+
 -- ---- the windows that a step is lent
 
 few-used : (n : ℕ) → n ≤ mostWindows → usedOf n ≡ 2 * n
 few-used n h = let least : min n mostWindows ≡ n = omega arith in ap (λ (k : ℕ). 2 * k) least
 
 module _ {e : Engine} {used : ℕ} {m w : List ℕ} (h : Sound e used m w) where
-  lent-windows : length (take (usedOf used) w) / 2 ≡ used
-  lent-windows =
-      let long : length (take (usedOf used) w) ≡ 2 * used =
-      length-take-le (usedOf used) w (omega (arith, few-used used (h .few), h .room)) ∙ few-used used (h .few) in
-      let half : 2 * used / 2 ≡ used = omega arith in
-      ap (λ (k : ℕ). k / 2) long ∙ half
-
-  not-refused : refusalOf e (length m) (length (take (usedOf used) w) / 2) ≡ 0
+  not-refused : refusalOf e (length m) (min used mostWindows) ≡ 0
   unfolding refusalOf
   not-refused =
-      sym (yes _ (h .legal) (no _ (le-ltb mostMemory (length m) (h .small)) (no _ (le-ltb mostWindows (length (take (usedOf used) w) / 2) (omega (arith, lent-windows, h .few))) (yes _ (h .well) refl))))
-
-  -- a step, refused or not, leaves a sound engine and a sound memory
-  record StepSound (x : Engine) (l : List ℕ) : Type 0 where
-    engine : Sound x used m w
-    long : length l ≡ length m
-    held : Bytes l
-
-  step-sound : (windows : List ℕ) → StepSound (stepOf e m windows .engine) (stepOf e m windows .memory)
-  unfolding stepOf
-  step-sound windows =
-      cases (λ (x : AfterAdvance). StepSound (x .engine) (x .memory)) (eqb (refusalOf e (length m) (length windows / 2)) 0)
-      (λ _. record {
-        engine = record {
-          legal = ap legalOf (advance-keeps e m (windowsOf windows) .settings) ∙ h .legal;
-          well = advance-well-formed e m (windowsOf windows) (h .legal) (h .small) (h .bytes) (h .well);
-          source = omega (arith, ap {B = ℕ} (λ x. x .sa) (advance-keeps e m (windowsOf windows) .simple), h .source);
-          destination = omega (arith, ap {B = ℕ} (λ x. x .da) (advance-keeps e m (windowsOf windows) .simple), h .destination);
-          few = h .few;
-          small = h .small;
-          bytes = h .bytes;
-          room = h .room;
-        };
-        long = advance-keeps e m (windowsOf windows) .length;
-        held = advance-keeps e m (windowsOf windows) .bytes (h .bytes);
-      })
-      (λ _. record { engine = h; long = refl; held = h .bytes })
+      sym (yes _ (h .legal) (no _ (le-ltb mostMemory (length m) (h .small)) (no _ (le-ltb mostWindows (min used mostWindows) (omega arith)) (yes _ (h .well) refl))))
 
   -- another memory of the same length
   remembered : {x : Engine} {l : List ℕ} → Sound x used m w → length l ≡ length m → Bytes l → Sound x used l w
@@ -115,33 +86,43 @@ module _ {e : Engine} {used : ℕ} {m w : List ℕ} (h : Sound e used m w) where
     room = g .room;
   }
 
-stepping-sound : (s : Session) (n taken : ℕ) (m w : List ℕ) → SoundIn s m w
-    → SoundIn (steppingOf s n taken m w .effect .session) (steppingOf s n taken m w .lent) w
-stepping-sound s n taken m w h =
-    cases P (eqb n 0) (λ _. h) (λ _. cases P (leb mostSteps taken) (λ _. h) (λ _. stepped))
+step-sound : (s : Session) (n taken : ℕ) (lent : Lent) → SoundAs s lent
+    → SoundAs (stepLineOf s n taken lent .effect .session) (stepLineOf s n taken lent .lent)
+step-sound s n taken lent h =
+    cases (λ (a : After). SoundAs (a .effect .session) (a .lent)) (stopsOf (s .engine .phase) n taken (acceptedOf (s .engine) (s .windows) (length (lent .memory))))
+    (λ _. h) (λ _. remembered h stepped (advance-keeps e m windows .length) (advance-keeps e m windows .bytes (h .bytes)))
   where
-    P : Effected → Type 0
-    P e = SoundIn (e .effect .session) (e .lent) w
+    e : Engine
+    e = s .engine
 
-    r : AfterStep
-    r = stepOf (s .engine) m (take (usedOf (s .windows)) w)
+    m : List ℕ
+    m = lent .memory
 
-    stepped : SoundIn (afterStep s n taken (r .event) (r .engine) .session) (r .memory) w
-    stepped =
-        let k = step-sound h (take (usedOf (s .windows)) w) in
-        cases (λ (x : Effect). SoundIn (x .session) (r .memory) w) (isNone (r .event)) (λ _. remembered h h (k .long) (k .held))
-        (λ _. remembered h (k .engine) (k .long) (k .held))
+    windows : List Window′
+    windows = windowsOf (take (usedOf (s .windows)) (lent .windows))
+
+    stepped : Sound (advanceOf e m windows .engine) (s .windows) m (lent .windows)
+    stepped = record {
+      legal = ap legalOf (advance-keeps e m windows .settings) ∙ h .legal;
+      well = advance-well-formed e m windows (h .legal) (h .small) (h .bytes) (h .well);
+      source = omega (arith, ap {B = ℕ} (λ x. x .sa) (advance-keeps e m windows .simple), h .source);
+      destination = omega (arith, ap {B = ℕ} (λ x. x .da) (advance-keeps e m windows .simple), h .destination);
+      few = h .few;
+      small = h .small;
+      bytes = h .bytes;
+      room = h .room;
+    }
 
 -- ---- records
 
-module _ (s : Session) (position : ℕ) (input : List ℕ) (at : ℕ) (m w : List ℕ) (held : Bytes input) (h : SoundIn s m w) where
-  abbrev Stays : Applied → Type 0
-  Stays a = SoundIn (a .effect .session) (a .memory) (a .windows)
+module _ (s : Session) (position : ℕ) (input : List ℕ) (at : ℕ) (lent : Lent) (held : Bytes input) (h : SoundAs s lent) where
+  abbrev Stays : After → Type 0
+  Stays a = SoundAs (a .effect .session) (a .lent)
 
-  apply-sound : (n : ℕ) (b : Body) → Within b → Stays (applyOf s n position input at m w b)
+  apply-sound : (n : ℕ) (b : Body) → Within b → Stays (applyOf s n position input at lent b)
   unfolding applyOf
   apply-sound n (Settings width beats) k =
-      cases (λ (e : Effect). SoundIn (e .session) m w) (legalSettings width beats)
+      cases (λ (e : Effect). SoundAs (e .session) lent) (legalSettings width beats)
       (λ legal. record {
         legal = legal;
         well = fresh-well-formed (record { width = width; beats = beats });
@@ -154,11 +135,11 @@ module _ (s : Session) (position : ℕ) (input : List ℕ) (at : ℕ) (m w : Lis
       })
       (λ _. h)
   apply-sound n (Memory address count) k =
-      cases (λ (e : Effected). SoundIn (e .effect .session) (e .lent) w) (ltb (length m) (address + count)) (λ _. h)
+      cases Stays (ltb (length (lent .memory)) (address + count)) (λ _. h)
       (λ _. let bytes = take count (drop (at + 12) input) in
-      remembered h h (length-sets m address bytes) (sets-bytes m address bytes (h .bytes) (take-bytes count (drop (at + 12) input) (drop-bytes (at + 12) input held))))
+      remembered h h (length-sets (lent .memory) address bytes) (sets-bytes (lent .memory) address bytes (h .bytes) (take-bytes count (drop (at + 12) input) (drop-bytes (at + 12) input held))))
   apply-sound n (Window start count) k =
-      cases (λ (e : Effected). SoundIn (e .effect .session) m (e .lent)) (leb mostWindows (s .windows)) (λ _. h)
+      cases Stays (leb mostWindows (s .windows)) (λ _. h)
       (λ more. record {
         legal = h .legal;
         well = h .well;
@@ -167,7 +148,7 @@ module _ (s : Session) (position : ℕ) (input : List ℕ) (at : ℕ) (m w : Lis
         few = omega (arith, leb-false mostWindows (s .windows) more);
         small = h .small;
         bytes = h .bytes;
-        room = length-set (set w (2 * s .windows) start) (2 * s .windows + 1) count ∙ length-set w (2 * s .windows) start ∙ h .room;
+        room = length-set (set (lent .windows) (2 * s .windows) start) (2 * s .windows + 1) count ∙ length-set (lent .windows) (2 * s .windows) start ∙ h .room;
       })
   apply-sound n (Write offset value) k =
       let words = write-keeps-words (s .engine) offset value (k .1) (record { source-word = h .source; destination-word = h .destination }) in
@@ -182,29 +163,29 @@ module _ (s : Session) (position : ℕ) (input : List ℕ) (at : ℕ) (m w : Lis
         room = h .room;
       }
   apply-sound n (Read offset) k = h
-  apply-sound n (Steps count) k = stepping-sound (withSequence s n) count 0 m w h
+  apply-sound n (Steps count) k = h
   apply-sound n (Clock bits clock) k =
-      cases (λ (e : Effect). SoundIn (e .session) m w) (ltb 7 bits) (λ _. h)
-      (λ _. cases (λ (e : Effect). SoundIn (e .session) m w) (eqb (busClockOf (s .monitor) (s .engine .settings .width) (s .engine .settings .beats) clock .number) 0) (λ _. h) (λ _. h))
+      cases (λ (e : Effect). SoundAs (e .session) lent) (ltb 7 bits) (λ _. h)
+      (λ _. cases (λ (e : Effect). SoundAs (e .session) lent) (eqb (busClockOf (s .monitor) (s .engine .settings .width) (s .engine .settings .beats) clock .number) 0) (λ _. h) (λ _. h))
 
   record-sound : (v : Reading) → readingOf input at (eqb position 0) ≡ v
-      → SoundIn (recordBy s position input at m w v .session) (recordBy s position input at m w v .memory) (recordBy s position input at m w v .windows)
+      → SoundAs (recordBy s position input at lent v .effect .session) (recordBy s position input at lent v .lent)
   record-sound Refused e = h
   record-sound (Found r next) e =
-      cases (λ (t : Turn). SoundIn (t .session) (t .memory) (t .windows)) (leb (r .sequence) (s .sequence)) (λ _. h)
+      cases (λ (t : Turn). SoundAs (t .effect .session) (t .lent)) (leb (r .sequence) (s .sequence)) (λ _. h)
       (λ _. apply-sound (r .sequence) (r .body) (claims .ranges input at (eqb position 0) r next held e .1))
 
 abbrev SoundAt : Replay → Type 0
-SoundAt r = SoundIn (r .session) (r .memory) (r .windows)
+SoundAt r = SoundAs (r .session) (r .lent)
 
 turn-sound : (base : ℕ) (input : List ℕ) → Bytes input → (r : Replay) → SoundAt r → SoundAt (turnOn base input r)
-unfolding turnOn turnOf
+unfolding turnOn
 turn-sound base input held r h = go (r .session .mode)
   where
-    go : (mode : Mode) → (let t = turnBy (r .session) (base + r .at) input (r .at) (r .memory) (r .windows) mode in SoundIn (t .session) (t .memory) (t .windows))
-    go modes.Records = record-sound (r .session) (base + r .at) input (r .at) (r .memory) (r .windows) held h (readingOf input (r .at) (eqb (base + r .at) 0)) refl
-    go (modes.Steps n taken) = stepping-sound (r .session) n taken (r .memory) (r .windows) h
-    go modes.Over = record-sound (r .session) (base + r .at) input (r .at) (r .memory) (r .windows) held h (readingOf input (r .at) (eqb (base + r .at) 0)) refl
+    go : (mode : Mode) → SoundAt (turnBy base input r mode)
+    go modes.Records = record-sound (r .session) (base + r .at) input (r .at) (r .lent) held h (readingOf input (r .at) (eqb (base + r .at) 0)) refl
+    go (modes.Steps n taken) = step-sound (r .session) n taken (r .lent) h
+    go modes.Over = h
 
 turns-sound : (n base : ℕ) (input : List ℕ) → Bytes input → (r : Replay) → SoundAt r → SoundAt (turnsOf n base input r)
 unfolding turnsOf
@@ -232,16 +213,12 @@ still s base input ended m w out e = record {
   turns = 0;
   text = [];
   goes = λ k h. absurd (omega arith);
-  stops = ap (λ (mode : Mode). both (leb (0 + lineRoom) (length out)) (readyOf mode (length input - 0) ended)) e ∙ nor (leb (0 + lineRoom) (length out));
+  stops = ap (λ (mode : Mode). both (leb (0 + lineRoom) (length out)) (readyOf mode (length input - 0) ended)) e ∙ both-no (leb (0 + lineRoom) (length out));
   ends = refl;
   put = refl;
   fits = omega arith;
   stored = refl;
 }
-  where
-    nor : (t : Bool) → both t false ≡ false
-    nor true = refl
-    nor false = refl
 
 pub sessions : Sessions
 sessions = record {
@@ -249,7 +226,7 @@ sessions = record {
   turn = turn-sound;
   pass = pass-sound;
   replay = λ input place s m w text held q. replay-sound held q;
-  accepted = λ s m w h. not-refused h;
+  accepted = λ s m w h. eq-eqb (refusalOf (s .engine) (length m) (min (s .windows) mostWindows)) 0 (not-refused h);
   lent = λ s m w h. few-used (s .windows) (h .few);
   over = λ s base input ended m w out r m′ w′ out′ p e.
       pass-unique s base input ended m w out r (record { session = s; at = 0; put = 0 }) m′ w′ out′ m w out p (still s base input ended m w out e);

@@ -1,20 +1,19 @@
 -- What every session of a replay keeps to, so that no step is refused and no window is lost. Proved in proofs/Sound.antt.
-use Prim.Native.Nat.{ℕ, _*_, _/_, _≤_, _<_}
+use Prim.Native.Nat.{ℕ, _*_, _≤_, _<_}
 use mathlib.Core.Path.{_≡_}
 use mathlib.Core.Bool.{Bool, true}
 use mathlib.Core.List.{List}
-use lib.ListN.{length, take}
+use lib.ListN.{length}
 use Rattle.kit.specs.Limits.{mostMemory, mostWindows, addressEnd}
 use Rattle.kit.specs.Settings.{legalOf}
 use Rattle.state.specs.declared.engine.Engine.{Engine}
 use Rattle.state.specs.State.{wellFormedOf}
-use Rattle.steps.specs.Run.{refusalOf}
 use Rattle.record.specs.Claims.{Bytes}
 use Rattle.trace.specs.declared.session.Mode.the-variants.{Over}
 use Rattle.trace.specs.declared.session.Session.{Session}
 use Rattle.trace.specs.declared.pass.Passed.{Passed}
 use Rattle.trace.specs.Effect.{startOf}
-use Rattle.trace.specs.Stepping.{usedOf}
+use Rattle.trace.specs.Stepping.{usedOf, acceptedOf}
 use Rattle.trace.specs.Pass.{Replay, turnOn, Passes}
 use Rattle.whole.specs.Listing.{startMemory, startWindows, Replays}
 
@@ -35,14 +34,14 @@ SoundIn s m w = Sound (s .engine) (s .windows) m w
 pub record Sessions : Type 0 where
   -- the first session is sound, and each turn on bytes keeps it so
   pub start : SoundIn startOf startMemory startWindows
-  pub turn : (base : ℕ) (input : List ℕ) → Bytes input → (r : Replay) → SoundIn (r .session) (r .memory) (r .windows)
-      → SoundIn (turnOn base input r .session) (turnOn base input r .memory) (turnOn base input r .windows)
+  pub turn : (base : ℕ) (input : List ℕ) → Bytes input → (r : Replay) → SoundIn (r .session) (r .lent .memory) (r .lent .windows)
+      → SoundIn (turnOn base input r .session) (turnOn base input r .lent .memory) (turnOn base input r .lent .windows)
   -- so a pass hands on a sound session, and every session of a replay is sound
   pub pass : (s : Session) (base : ℕ) (input : List ℕ) (ended : Bool) (m w out : List ℕ) (r : Passed) (m′ w′ out′ : List ℕ)
       → Passes s base input ended m w out r m′ w′ out′ → Bytes input → SoundIn s m w → SoundIn (r .session) m′ w′
   pub replay : (input : List ℕ) (place : ℕ) (s : Session) (m w text : List ℕ) → Bytes input → Replays input place s m w text → SoundIn s m w
   -- no step of an ST is refused, and it is lent each window
-  pub accepted : (s : Session) (m w : List ℕ) → SoundIn s m w → refusalOf (s .engine) (length m) (length (take (usedOf (s .windows)) w) / 2) ≡ 0
+  pub accepted : (s : Session) (m w : List ℕ) → SoundIn s m w → acceptedOf (s .engine) (s .windows) (length m) ≡ true
   pub lent : (s : Session) (m w : List ℕ) → SoundIn s m w → usedOf (s .windows) ≡ 2 * s .windows
   -- a session that is over reads no further record and prints no further line
   pub over : (s : Session) (base : ℕ) (input : List ℕ) (ended : Bool) (m w out : List ℕ) (r : Passed) (m′ w′ out′ : List ℕ)

@@ -3,8 +3,8 @@ use native.Mathlib.Omega.{arith}
 use borrow.Author.Needs.{needs}
 use denote.Ref.{now}
 use Rattle.trace.specs.declared.session.Effect.{Effect}
-use Rattle.trace.specs.Effect.{Effected}
-use Rattle.trace.specs.Turn.{DataFits, applied, onMemory, onWindows, applyOf}
+use Rattle.trace.specs.Effect.{lend, after}
+use Rattle.trace.specs.Turn.{DataFits, applyOf}
 use Rattle.trace.proofs.turn.apply.Statement.{statement}
 use Rattle.trace.proofs.turn.apply.Tie as tie
 
@@ -46,8 +46,8 @@ register-read-requires c κs = search needs
 enum-known-body-6 : tie.Need-enum-known-body-6
 enum-known-body-6 c = search needs
 
-stepping-requires : tie.Need-stepping-requires
-stepping-requires c κs = search needs
+steps-requires : tie.Need-steps-requires
+steps-requires c κs = search needs
 
 enum-known-body-7 : tie.Need-enum-known-body-7
 enum-known-body-7 c = search needs
@@ -59,8 +59,8 @@ returns : tie.Need-returns
 unfolding applyOf
 returns c =
     let a = c .before .before .before .before .before .before .before .args in
-    let then = ap (applyOf (a .session) (a .sequence) (a .position) (now (a .input)) (a .at) (now (a .memory)) (now (a .windows))) (sym (c .before .before .body .given .1)) in
-    ap (λ (e : Effect). applied e (now (a .memory)) (now (a .windows))) (c .settings .ensures) ∙ then
+    let then = ap (applyOf (a .session) (a .sequence) (a .position) (now (a .input)) (a .at) (lend (now (a .memory)) (now (a .windows)))) (sym (c .before .before .body .given .1)) in
+    ap (λ (e : Effect). after e (lend (now (a .memory)) (now (a .windows)))) (c .settings .ensures) ∙ then
 
 same-length : tie.Need-same-length
 same-length c = search needs
@@ -69,8 +69,8 @@ returns-2 : tie.Need-returns-2
 unfolding applyOf
 returns-2 c =
     let a = c .before .before .before .before .before .before .before .before .before .before .args in
-    let then = ap (applyOf (a .session) (a .sequence) (a .position) (now (a .input)) (a .at) (now (a .memory)) (now (a .windows))) (sym (c .before .before .before .before .before .body2 .given .1)) in
-    ap (λ (e : Effected). onMemory e (now (a .windows))) (c .before .before .memory .ensures) ∙ then
+    let then = ap (applyOf (a .session) (a .sequence) (a .position) (now (a .input)) (a .at) (lend (now (a .memory)) (now (a .windows)))) (sym (c .before .before .before .before .before .body2 .given .1)) in
+    c .before .before .memory .ensures (now (a .windows)) ∙ then
 
 same-length-2 : tie.Need-same-length-2
 same-length-2 c = search needs
@@ -79,42 +79,36 @@ returns-3 : tie.Need-returns-3
 unfolding applyOf
 returns-3 c =
     let a = c .before .before .before .before .before .before .before .before .before .before .args in
-    let then = ap (applyOf (a .session) (a .sequence) (a .position) (now (a .input)) (a .at) (now (a .memory)) (now (a .windows))) (sym (c .before .before .before .before .before .body3 .given .1)) in
-    ap (λ (e : Effected). onWindows e (now (a .memory))) (c .before .before .window .ensures) ∙ then
+    let then = ap (applyOf (a .session) (a .sequence) (a .position) (now (a .input)) (a .at) (lend (now (a .memory)) (now (a .windows)))) (sym (c .before .before .before .before .before .body3 .given .1)) in
+    c .before .before .window .ensures (now (a .memory)) ∙ then
 
 returns-4 : tie.Need-returns-4
 unfolding applyOf
 returns-4 c =
     let a = c .before .before .before .before .before .before .before .args in
-    let then = ap (applyOf (a .session) (a .sequence) (a .position) (now (a .input)) (a .at) (now (a .memory)) (now (a .windows))) (sym (c .before .before .body4 .given .1)) in
-    ap (λ (e : Effect). applied e (now (a .memory)) (now (a .windows))) (c .register-write .ensures) ∙ then
+    let then = ap (applyOf (a .session) (a .sequence) (a .position) (now (a .input)) (a .at) (lend (now (a .memory)) (now (a .windows)))) (sym (c .before .before .body4 .given .1)) in
+    ap (λ (e : Effect). after e (lend (now (a .memory)) (now (a .windows)))) (c .register-write .ensures) ∙ then
 
 returns-5 : tie.Need-returns-5
 unfolding applyOf
 returns-5 c =
     let a = c .before .before .before .before .before .before .before .args in
-    let then = ap (applyOf (a .session) (a .sequence) (a .position) (now (a .input)) (a .at) (now (a .memory)) (now (a .windows))) (sym (c .before .before .body5 .given .1)) in
-    ap (λ (e : Effect). applied e (now (a .memory)) (now (a .windows))) (c .register-read .ensures) ∙ then
-
-same-length-3 : tie.Need-same-length-3
-same-length-3 c = search needs
-
-same-length-4 : tie.Need-same-length-4
-same-length-4 c = search needs
+    let then = ap (applyOf (a .session) (a .sequence) (a .position) (now (a .input)) (a .at) (lend (now (a .memory)) (now (a .windows)))) (sym (c .before .before .body5 .given .1)) in
+    ap (λ (e : Effect). after e (lend (now (a .memory)) (now (a .windows)))) (c .register-read .ensures) ∙ then
 
 returns-6 : tie.Need-returns-6
 unfolding applyOf
 returns-6 c =
-    let a = c .before .before .before .before .before .before .before .before .before .before .before .before .before .args in
-    let then = ap (applyOf (a .session) (a .sequence) (a .position) (now (a .input)) (a .at) (now (a .memory)) (now (a .windows))) (sym (c .before .before .before .before .before .before .before .before .body6 .given .1)) in
-    ap (λ (e : Effected). onMemory e (now (a .windows))) (c .before .before .stepping .ensures) ∙ then
+    let a = c .before .before .before .before .before .before .before .args in
+    let then = ap (applyOf (a .session) (a .sequence) (a .position) (now (a .input)) (a .at) (lend (now (a .memory)) (now (a .windows)))) (sym (c .before .before .body6 .given .1)) in
+    ap (λ (e : Effect). after e (lend (now (a .memory)) (now (a .windows)))) (c .steps .ensures) ∙ then
 
 returns-7 : tie.Need-returns-7
 unfolding applyOf
 returns-7 c =
     let a = c .before .before .before .before .before .before .before .args in
-    let then = ap (applyOf (a .session) (a .sequence) (a .position) (now (a .input)) (a .at) (now (a .memory)) (now (a .windows))) (sym (c .before .before .body7 .given .1)) in
-    ap (λ (e : Effect). applied e (now (a .memory)) (now (a .windows))) (c .clock .ensures) ∙ then
+    let then = ap (applyOf (a .session) (a .sequence) (a .position) (now (a .input)) (a .at) (lend (now (a .memory)) (now (a .windows)))) (sym (c .before .before .body7 .given .1)) in
+    ap (λ (e : Effect). after e (lend (now (a .memory)) (now (a .windows)))) (c .clock .ensures) ∙ then
 
 pub apply-spec : {M : Type 1} → statement M
 apply-spec =
@@ -132,7 +126,7 @@ apply-spec =
     enum-known-body-5
     register-read-requires
     enum-known-body-6
-    stepping-requires
+    steps-requires
     enum-known-body-7
     clock-requires
     returns
@@ -142,7 +136,5 @@ apply-spec =
     returns-3
     returns-4
     returns-5
-    same-length-3
-    same-length-4
     returns-6
     returns-7)

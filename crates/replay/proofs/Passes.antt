@@ -1,17 +1,14 @@
--- What a pass used and put.
+-- What a pass used.
 use mathlib.Core.Path.{_≡_, refl, sym, ap, subst, _∙_}
-use Prim.Native.Nat.{ℕ, zero, suc, _+_, _≤_, _<_}
+use Prim.Native.Nat.{ℕ, zero, suc, _≤_, _<_}
 use mathlib.Core.Bool.{Bool, true, false}
 use mathlib.Core.List.{List}
 use native.Mathlib.Omega.{arith}
-use lib.ListN.{length, length-append}
+use lib.ListN.{length}
 use Rattle.kit.proofs.Choice.{never}
-use Rattle.listing.specs.Line.{lineOf}
-use Rattle.listing.proofs.Lines.{line-some}
 use Rattle.trace.specs.declared.session.Session.{Session}
 use Rattle.trace.specs.declared.pass.Passed.{Passed}
-use Rattle.trace.specs.Turn.{turnOf}
-use Rattle.trace.specs.Pass.{Replay, begin, turnOn, turnsOf, goesOn, Passes}
+use Rattle.trace.specs.Pass.{Replay, begin, turnsOf, goesOn, Passes}
 use Rattle.whole.proofs.Parts.{turns-within}
 
 module _ (size base : ℕ) (input : List ℕ) (ended : Bool) (q : Replay) where
@@ -19,15 +16,6 @@ module _ (size base : ℕ) (input : List ℕ) (ended : Bool) (q : Replay) where
   unfolding turnsOf
   none-taken zero goes e = refl
   none-taken (suc n) goes e = absurd (never (sym e ∙ goes 0 (omega arith)))
-
-  some-taken : (n : ℕ) → goesOn size input ended (turnsOf n base input q) ≡ false → goesOn size input ended q ≡ true
-      → 0 < length (turnsOf n base input q .text)
-  unfolding turnsOf turnOn
-  some-taken zero stop go = absurd (never (sym stop ∙ go))
-  some-taken (suc n) stop go =
-      let p = turnsOf n base input q in
-      let t = turnOf (p .session) (base + p .at) input (p .at) (p .memory) (p .windows) in
-      omega (arith, length-append (p .text) (lineOf (t .line)), line-some (t .line))
 
 module _ {s : Session} {base : ℕ} {input : List ℕ} {ended : Bool} {m w out : List ℕ} {r : Passed} {m′ w′ out′ : List ℕ}
     (p : Passes s base input ended m w out r m′ w′ out′) where
@@ -40,8 +28,3 @@ module _ {s : Session} {base : ℕ} {input : List ℕ} {ended : Bool} {m w out :
   pass-idle e =
       let same = p .ends ∙ ap (λ (n : ℕ). turnsOf n base input (begin s m w)) (none-taken (length out) base input ended (begin s m w) (p .turns) (p .goes) e) in
       (ap (λ (x : Replay). x .session) same, ap (λ (x : Replay). x .at) same)
-
-  -- a pass that can take a turn puts a byte
-  pub pass-puts : goesOn (length out) input ended (begin s m w) ≡ true → 0 < r .put
-  pass-puts e =
-      omega (arith, p .put, ap (λ (x : Replay). length (x .text)) (p .ends), some-taken (length out) base input ended (begin s m w) (p .turns) (p .stops) e)

@@ -20,7 +20,8 @@ use Rattle.replay.specs.declared.flow.Flow.{Flow}
 use Rattle.replay.specs.Flow.{room, leftOf, pending, Fits, wantsOf, afterRead, finishedOf, overOf, afterPass}
 use Rattle.replay.specs.Turn.{Refills, Forwards, Flows, readOf, interruptedBy, Prints, Interrupted, Progress}
 use Rattle.replay.proofs.Pending.{pending-length, refill-kept, refill-fits, used-within}
-use Rattle.replay.proofs.Passes.{pass-idle, pass-puts}
+use Rattle.whole.proofs.Progress.{pass-puts}
+use Rattle.replay.proofs.Passes.{pass-idle}
 
 -- no record can be cut off by the end of the pending bytes
 abbrev Enough : Flow → Type 0

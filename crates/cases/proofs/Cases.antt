@@ -1,4 +1,4 @@
--- P1 to P8, S1 to S3 and M1 to M3 of document 01, computed.
+-- P1 to P8, S1 to S3 and M1 to M3 of RULES.md, computed.
 use mathlib.Core.Path.{refl}
 use Rattle.kit.specs.Settings.{legalWidth, legalBeats}
 use Rattle.cut.specs.Cut.{reach, burstEnd, cutWithin, cut}

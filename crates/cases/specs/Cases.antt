@@ -1,4 +1,4 @@
--- Document 01's worked cases, one list under one claim. Each is computed through the definition that a contract cites:
+-- RULES.md's worked cases, one list under one claim. Each is computed through the definition that a contract cites:
 -- `planOf` (plan), `runOf` (run), `readOf` (read) and `busClockOf` (bus_clock).
 use mathlib.Core.Path.{_≡_}
 use mathlib.Core.List.{List, [], _∷_, _++_}

@@ -16,7 +16,7 @@ use Rattle.claims.specs.Transfers.{Act, step, write, read, act, after, s
 
 -- ---- no step is refused
 
--- what any caller lends and writes: bytes, no more of them and of windows than document 01 allows, and 32-bit values
+-- what any caller lends and writes: bytes, no more of them and of windows than RULES.md allows, and 32-bit values
 abbrev pub Proper : List Act → Type 0
 Proper [] = Unit {0}
 Proper (step m windows ∷ more) = Bytes m × (length m ≤ mostMemory) × (length windows ≤ mostWindows) × Proper more

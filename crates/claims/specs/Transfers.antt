@@ -1,4 +1,4 @@
--- Demand 3 for transfers: covered, no shorter, copied, and in how many steps. Document 01, "Descriptor and steps": a
+-- Demand 3 for transfers: covered, no shorter, copied, and in how many steps. RULES.md, "Descriptor and steps": a
 -- transfer starts at its fetch or its BTT write and ends with its update, or in simple mode with its last burst; between,
 -- only steps and register accesses change its state.
 use mathlib.Core.Path.{_≡_}

@@ -1,4 +1,4 @@
--- Document 01, "Numbered answers": the number of each answer.
+-- RULES.md, "Numbered answers": the number of each answer.
 use Prim.Native.Nat.{ℕ}
 use Rattle.kit.specs.declared.answer.Answer.{Answer}
 use Rattle.kit.specs.declared.answer.Answer.the-variants.{Done, Settings, MemorySize, Offset, Busy, ErrorSet, WindowCount, PlanRange, PlanRoom, State, Record, Sequence, MemoryEnd, Clock}

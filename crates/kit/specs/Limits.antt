@@ -1,4 +1,4 @@
--- The limits of document 01.
+-- The limits of RULES.md.
 use Prim.Native.Nat.{ℕ, _^_}
 
 -- the most bytes of one transfer

@@ -1,4 +1,4 @@
--- Document 01, answer 1: width 4, 8, 16, 32, 64 or 128 bytes; beats 2, 4, 8, 16, 32, 64, 128 or 256.
+-- RULES.md, answer 1: width 4, 8, 16, 32, 64 or 128 bytes; beats 2, 4, 8, 16, 32, 64, 128 or 256.
 use Prim.Native.Nat.{ℕ}
 use mathlib.Core.Bool.{Bool, false}
 use mathlib.Core.List.{List, [], _∷_}

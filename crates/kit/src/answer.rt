@@ -1,4 +1,4 @@
-// Document 01, "Numbered answers": one case an answer, named after what was wrong.
+// RULES.md, "Numbered answers": one case an answer, named after what was wrong.
 ghost use mathlib.Core.Path.{_≡_};
 ghost use Rattle.kit.specs.Answer.{numberOf};
 
@@ -19,7 +19,7 @@ pub enum Answer {
     Clock,
 }
 
-// The answer's number in document 01.
+// The answer's number in RULES.md.
 pub fn number(answer: Answer) -> u32
     ensures { λ r. ⌜ r ≡ numberOf answer ⌝ }
 {

@@ -1,4 +1,4 @@
-// What every layer uses: document 01's numbered answers, limits and settings, and little-endian words.
+// What every layer uses: RULES.md's numbered answers, limits and settings, and little-endian words.
 pub mod answer;
 pub mod limits;
 pub mod logic;

@@ -1,4 +1,4 @@
-// The limits of document 01.
+// The limits of RULES.md.
 
 // The most bytes of one transfer: what 23 bits can say.
 pub const MOST_BYTES: u32 = 8388607;

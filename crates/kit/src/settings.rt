@@ -1,4 +1,4 @@
-// Document 01, answer 1: the widths and burst lengths an engine can be built with.
+// RULES.md, answer 1: the widths and burst lengths an engine can be built with.
 ghost use mathlib.Core.Path.{_≡_};
 ghost use Rattle.kit.specs.Settings.{legalWidth, legalBeats, legalOf};
 
@@ -26,7 +26,7 @@ fn legal_beats(beats: u32) -> bool
     }
 }
 
-// Whether width and beats are both on document 01's lists.
+// Whether width and beats are both on RULES.md's lists.
 pub fn legal(settings: Settings) -> bool
     ensures { λ r. ⌜ r ≡ legalOf settings ⌝ }
 {

@@ -1,4 +1,4 @@
--- A group of bytes judged by its ends: the verdict of every byte, as document 01 states it, is two tests.
+-- A group of bytes judged by its ends: the verdict of every byte, as RULES.md states it, is two tests.
 use mathlib.Core.Path.{_≡_, refl, sym, ap, ap₂, _∙_}
 use mathlib.Core.Bool.{Bool, true, false}
 use mathlib.Core.Logic.{_⊎_, inl, inr}

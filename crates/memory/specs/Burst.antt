@@ -1,4 +1,4 @@
--- Document 01, "Descriptor and steps", move: the memory after a burst whose source bytes were all read before any was written.
+-- RULES.md, "Descriptor and steps", move: the memory after a burst whose source bytes were all read before any was written.
 use Prim.Native.Nat.{ℕ}
 use mathlib.Core.List.{List}
 use lib.ListN.{take, drop}

@@ -1,4 +1,4 @@
--- Document 01, "Memory that answers badly": what one byte answers, and what a group of bytes answers.
+-- RULES.md, "Memory that answers badly": what one byte answers, and what a group of bytes answers.
 use Prim.Native.Nat.{ℕ, zero, suc}
 use mathlib.Core.List.{List}
 use lib.Dec.{leb}

@@ -1,4 +1,4 @@
--- Document 01, "Memory that answers badly": sick windows. Addresses never wrap.
+-- RULES.md, "Memory that answers badly": sick windows. Addresses never wrap.
 use Prim.Native.Nat.{ℕ, _+_}
 use mathlib.Core.Bool.{Bool, false}
 use mathlib.Core.List.{List, [], _∷_}

@@ -1,4 +1,4 @@
-// Document 01, "Descriptor and steps", move: all source bytes of a burst are read before any is written.
+// RULES.md, "Descriptor and steps", move: all source bytes of a burst are read before any is written.
 ghost use mathlib.Core.Path.{_≡_};
 ghost use Prim.Native.Nat.{_+_, _≤_};
 ghost use lib.ListN.{length};

@@ -1,4 +1,4 @@
-// Document 01, "Memory that answers badly": what memory answers for a group of bytes. A group is judged by its start and
+// RULES.md, "Memory that answers badly": what memory answers for a group of bytes. A group is judged by its start and
 // length, with one look at each window: no work grows with the bytes, and no end is reckoned before it is known to fit.
 use crate::window::Window;
 use crate::window::touches;

@@ -1,4 +1,4 @@
-// Document 01, "Memory that answers badly": sick windows, parts of the memory whose bytes answer "slave error".
+// RULES.md, "Memory that answers badly": sick windows, parts of the memory whose bytes answer "slave error".
 ghost use mathlib.Core.Path.{_≡_};
 ghost use Rattle.memory.specs.Interval.{touchesOf};
 

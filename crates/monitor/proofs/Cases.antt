@@ -1,4 +1,4 @@
--- M1 to M3 of document 01, computed.
+-- M1 to M3 of RULES.md, computed.
 use mathlib.Core.Path.{refl}
 use Rattle.kit.specs.Settings.{legalWidth, legalBeats}
 use Rattle.monitor.specs.Flags.{flagOf, raise, validTable, heldTable, validFlags, heldFlags}

@@ -1,4 +1,4 @@
--- Document 01, "Bus clocks", M1 to M3: W=4, the clock before was out of reset with valid low, and other fields not named are 0.
+-- RULES.md, "Bus clocks", M1 to M3: W=4, the clock before was out of reset with valid low, and other fields not named are 0.
 use mathlib.Core.Path.{_≡_}
 use mathlib.Core.Bool.{true, false}
 use Prim.Native.Nat.{ℕ, _^_}

@@ -31,7 +31,7 @@ abbrev pub allOutOfReset : List Clock → Bool
 allOutOfReset [] = true
 allOutOfReset (c ∷ cs) = c .aresetn && allOutOfReset cs
 
--- the numbers of document 01's flags
+-- the numbers of RULES.md's flags
 abbrev pub flagNumbers : List ℕ
 flagNumbers = 37 ∷ 38 ∷ 39 ∷ 41 ∷ 42 ∷ 43 ∷ 44 ∷ 45 ∷ 46 ∷ 47 ∷ 48 ∷ 49 ∷ 50 ∷ 52 ∷ 53 ∷ 54 ∷ 55 ∷ 56 ∷ []
 

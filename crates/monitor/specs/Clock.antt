@@ -1,4 +1,4 @@
--- Document 01, "Bus clocks": the ranges of a clock's fields, and the bytes that its burst reaches.
+-- RULES.md, "Bus clocks": the ranges of a clock's fields, and the bytes that its burst reaches.
 use Prim.Native.Nat.{ℕ, _+_, _-_, _*_, _/_, _^_}
 use mathlib.Core.Bool.{Bool, _&&_}
 use lib.Dec.{ltb}

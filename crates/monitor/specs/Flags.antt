@@ -1,4 +1,4 @@
--- Document 01, "Bus clocks", and PG101's status bits: the table of flags, a line each. 40 and 51 have no check.
+-- RULES.md, "Bus clocks", and PG101's status bits: the table of flags, a line each. 40 and 51 have no check.
 use Prim.Native.Nat.{ℕ, _^_}
 use mathlib.Core.Bool.{Bool, _&&_, not}
 use mathlib.Core.List.{List, [], _∷_}

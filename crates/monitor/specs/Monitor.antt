@@ -1,4 +1,4 @@
--- Document 01, "Bus clocks": the monitor's next self, what it reports, and the answers 1 and 13 of a bus clock.
+-- RULES.md, "Bus clocks": the monitor's next self, what it reports, and the answers 1 and 13 of a bus clock.
 use Prim.Native.Nat.{ℕ}
 use mathlib.Core.Bool.{false, _&&_, not}
 use lib.Dec.{eqb}

@@ -1,4 +1,4 @@
--- Document 01, "Bus clocks": the tests of flags 37 to 44 that are more than one comparison.
+-- RULES.md, "Bus clocks": the tests of flags 37 to 44 that are more than one comparison.
 use Prim.Native.Nat.{ℕ, _/_, _%_, _^_}
 use mathlib.Core.Bool.{Bool, _&&_, _||_, not}
 use mathlib.Core.List.{List, [], _∷_}

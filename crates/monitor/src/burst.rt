@@ -1,4 +1,4 @@
-// Document 01, "Bus clocks": the beats of a clock's burst and the bytes that it reaches.
+// RULES.md, "Bus clocks": the beats of a clock's burst and the bytes that it reaches.
 ghost use mathlib.Core.Path.{_≡_};
 ghost use Prim.Native.Nat.{_<_};
 ghost use Rattle.monitor.specs.Clock.{beatsOf, roundedOf, lastByteOf};

@@ -1,8 +1,8 @@
-// Document 01, "Bus clocks": the fields of one clock, and their ranges.
+// RULES.md, "Bus clocks": the fields of one clock, and their ranges.
 ghost use mathlib.Core.Path.{_≡_};
 ghost use Rattle.monitor.specs.Clock.{inRange};
 
-// `aresetn` is document 01's reset-high: ARESETn is high, the clock is out of reset.
+// `aresetn` is RULES.md's reset-high: ARESETn is high, the clock is out of reset.
 pub struct Clock {
     pub aresetn: bool,
     pub valid: bool,

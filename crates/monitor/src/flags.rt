@@ -1,4 +1,4 @@
-// Document 01, "Bus clocks", and PG101's status bits: the table of flags, a line each. 40 and 51 have no check.
+// RULES.md, "Bus clocks", and PG101's status bits: the table of flags, a line each. 40 and 51 have no check.
 ghost use mathlib.Core.Path.{_≡_};
 ghost use Prim.Native.Nat.{_<_};
 ghost use Rattle.monitor.specs.Flags.{flagOf, validFlags, heldFlags};

@@ -1,4 +1,4 @@
-// Document 01, "Bus clocks": the monitor of the read-address bus, one clock at a time.
+// RULES.md, "Bus clocks": the monitor of the read-address bus, one clock at a time.
 mod burst;
 pub mod clock;
 mod flags;

@@ -1,4 +1,4 @@
-// Document 01, "Bus clocks": the monitor takes one clock and hands back its next self.
+// RULES.md, "Bus clocks": the monitor takes one clock and hands back its next self.
 ghost use mathlib.Core.Path.{_≡_};
 ghost use mathlib.Core.Bool.{true};
 ghost use Rattle.kit.specs.Answer.{numberOf};

@@ -1,4 +1,4 @@
-// Document 01, "Bus clocks": the tests of flags 37 to 44 that are more than one comparison.
+// RULES.md, "Bus clocks": the tests of flags 37 to 44 that are more than one comparison.
 ghost use mathlib.Core.Path.{_≡_};
 ghost use Prim.Native.Nat.{_<_};
 ghost use Rattle.monitor.specs.Rules.{pageCrossed, wrapUnaligned, cacheWrong, fixedLong, wrapCount, wrapBeats, sizeAbove};

@@ -1,4 +1,4 @@
--- Document 01, "Trace and listing": the records of the whole case, one after the other. Proved in proofs/Cases.antt.
+-- RULES.md, "Trace and listing": the records of the whole case, one after the other. Proved in proofs/Cases.antt.
 use mathlib.Core.Path.{_≡_}
 use mathlib.Core.Bool.{true, false}
 use mathlib.Core.List.{List, [], _∷_}

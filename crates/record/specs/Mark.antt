@@ -1,11 +1,11 @@
--- Document 01, "Trace and listing": the marks, and the bytes that each kind of record has.
+-- RULES.md, "Trace and listing": the marks, and the bytes that each kind of record has.
 use Prim.Native.Nat.{ℕ}
 use mathlib.Core.Bool.{Bool}
 use lib.Dec.{eqb, leb}
 use Rattle.kit.specs.Choice.{when, both}
 use Rattle.kit.specs.Word.{joined}
 
--- a record's kind, named after its mark; a mark that document 01 does not have is unknown
+-- a record's kind, named after its mark; a mark that RULES.md does not have is unknown
 pub data Kind : Type 0 where
   CF : Kind
   MM : Kind

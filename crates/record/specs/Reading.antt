@@ -1,4 +1,4 @@
--- Document 01, "Trace and listing": a record's body, what answer 10 refuses, and what reading a record gives.
+-- RULES.md, "Trace and listing": a record's body, what answer 10 refuses, and what reading a record gives.
 use Prim.Native.Nat.{ℕ, _+_, _/_, _%_}
 use mathlib.Core.Bool.{Bool, true, false}
 use mathlib.Core.List.{List}

@@ -1,4 +1,4 @@
-// Document 01, "Trace and listing": the records of fixed length but AR, each with one test that it is whole.
+// RULES.md, "Trace and listing": the records of fixed length but AR, each with one test that it is whole.
 ghost use mathlib.Core.Path.{_≡_};
 ghost use mathlib.Core.Bool.{true};
 ghost use Prim.Native.Nat.{_+_, _≤_};

@@ -1,4 +1,4 @@
-// Document 01, "Trace and listing": the AR record, one bus clock. Its ranges are answer 13, judged by the monitor.
+// RULES.md, "Trace and listing": the AR record, one bus clock. Its ranges are answer 13, judged by the monitor.
 ghost use mathlib.Core.Path.{_≡_};
 ghost use mathlib.Core.Bool.{true};
 ghost use Prim.Native.Nat.{_+_, _≤_, _<_};

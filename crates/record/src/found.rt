@@ -1,4 +1,4 @@
-// Document 01, "Trace and listing": what a whole record gives.
+// RULES.md, "Trace and listing": what a whole record gives.
 ghost use mathlib.Core.Path.{_≡_};
 ghost use Prim.Native.Nat.{_+_, _≤_};
 ghost use lib.ListN.{length};

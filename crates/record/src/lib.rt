@@ -1,4 +1,4 @@
-// Document 01, "Trace and listing": reading a record gives it and the next place, or the refusal.
+// RULES.md, "Trace and listing": reading a record gives it and the next place, or the refusal.
 ghost use mathlib.Core.Path.{_≡_};
 ghost use Rattle.record.specs.Reading.{readingOf};
 

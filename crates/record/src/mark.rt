@@ -1,4 +1,4 @@
-// Document 01, "Trace and listing": the two letters of each mark, the first in the lower byte.
+// RULES.md, "Trace and listing": the two letters of each mark, the first in the lower byte.
 pub const CF: u16 = 0x4643;
 
 pub const MM: u16 = 0x4D4D;

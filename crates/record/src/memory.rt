@@ -1,4 +1,4 @@
-// Document 01, "Trace and listing": the MM record, whose length has to be 1..1024.
+// RULES.md, "Trace and listing": the MM record, whose length has to be 1..1024.
 ghost use mathlib.Core.Path.{_≡_};
 ghost use mathlib.Core.Bool.{true};
 ghost use Prim.Native.Nat.{_+_, _≤_};

@@ -1,4 +1,4 @@
-// Document 01, "Trace and listing": a record, and what reading one gives.
+// RULES.md, "Trace and listing": a record, and what reading one gives.
 use monitor::clock::Clock;
 
 // One case a mark: CF, MM, SW, WR, RD, ST, AR. MM's bytes stay in the input, from the mark's place + 12 up to the next.

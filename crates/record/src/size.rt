@@ -1,4 +1,4 @@
-// Document 01, "Trace and listing": the bytes of each kind of record, mark and sequence number included.
+// RULES.md, "Trace and listing": the bytes of each kind of record, mark and sequence number included.
 pub const HEADER: usize = 6;
 
 pub const CF: usize = 10;

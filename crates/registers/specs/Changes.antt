@@ -1,4 +1,4 @@
--- Document 01, "Registers", from the state's side: a write is refused and leaves the state, or is one of these changes.
+-- RULES.md, "Registers", from the state's side: a write is refused and leaves the state, or is one of these changes.
 use mathlib.Core.Path.{_≡_}
 use Prim.Native.Nat.{ℕ, _<_}
 use mathlib.Core.Bool.{Bool, true, false}

@@ -1,4 +1,4 @@
--- Document 01, "Registers": what a read gives.
+-- RULES.md, "Registers": what a read gives.
 use Prim.Native.Nat.{ℕ, _+_, _^_}
 use mathlib.Core.Bool.{Bool, not}
 use mathlib.Core.List.{List, [], _∷_}

@@ -1,4 +1,4 @@
--- Document 01, "Registers": what a write does.
+-- RULES.md, "Registers": what a write does.
 use Prim.Native.Nat.{ℕ}
 use mathlib.Core.Bool.{Bool, true, not}
 use lib.Dec.{eqb}

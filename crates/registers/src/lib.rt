@@ -1,3 +1,3 @@
-// Document 01, "Registers": reading and writing the engine's registers.
+// RULES.md, "Registers": reading and writing the engine's registers.
 pub mod read;
 pub mod write;

@@ -1,4 +1,4 @@
-// Document 01, "Registers": reading a register.
+// RULES.md, "Registers": reading a register.
 use kit::answer::Answer;
 use kit::settings::legal;
 use state::bits::ERR_IRQ;
@@ -68,7 +68,7 @@ fn given(value: u32) -> Reading
     }
 }
 
-// One arm a register, in the data book's order.
+// One arm a register, in PG034's order.
 fn read_register(engine: Engine, offset: u32) -> Reading
     ensures { λ r. ⌜ readSeen r ≡ registerOf engine offset ⌝ }
 {

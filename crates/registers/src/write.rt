@@ -1,4 +1,4 @@
-// Document 01, "Registers": writing a register. A write's answer comes first; each field is then chosen by it, and the
+// RULES.md, "Registers": writing a register. A write's answer comes first; each field is then chosen by it, and the
 // state is built once, which costs less than a choice between two states.
 use kit::answer::Answer;
 use kit::logic::both;
@@ -348,7 +348,7 @@ fn write_count(engine: Engine, value: u32) -> Written
     )
 }
 
-// One arm a register, in the data book's order.
+// One arm a register, in PG034's order.
 fn write_register(engine: Engine, offset: u32, value: u32) -> Written
     ensures { λ r. ⌜ writeSeen r ≡ registerWrittenOf engine offset value ⌝ }
 {

@@ -1,4 +1,4 @@
--- Document 01, "Registers": pointers, and the bits of CDMACR and CDMASR by their numbers, as in PG034.
+-- RULES.md, "Registers": pointers, and the bits of CDMACR and CDMASR by their numbers, as in PG034.
 use Prim.Native.Nat.{ℕ, _*_, _/_, _%_, _^_}
 use mathlib.Core.Bool.{Bool}
 use lib.Dec.{eqb}

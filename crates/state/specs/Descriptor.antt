@@ -1,4 +1,4 @@
--- Document 01, "Descriptor and steps": a descriptor's layout, and where a transfer starts.
+-- RULES.md, "Descriptor and steps": a descriptor's layout, and where a transfer starts.
 use Prim.Native.Nat.{ℕ, _+_, _%_, _^_}
 use mathlib.Core.List.{List}
 use lib.Dec.{eqb}

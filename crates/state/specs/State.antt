@@ -1,4 +1,4 @@
--- Document 01, "Registers" and "Numbered answers": the fresh state, busy, error bits, the well-formed state and the
+-- RULES.md, "Registers" and "Numbered answers": the fresh state, busy, error bits, the well-formed state and the
 -- interrupt line.
 use Prim.Native.Nat.{ℕ, _+_, _%_}
 use mathlib.Core.Bool.{Bool, true, false, not}

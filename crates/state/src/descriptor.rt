@@ -1,4 +1,4 @@
-// Document 01, "Descriptor and steps": a descriptor's layout, and where a transfer starts.
+// RULES.md, "Descriptor and steps": a descriptor's layout, and where a transfer starts.
 use crate::bits::bit;
 use crate::engine::Transfer;
 use kit::word::load;

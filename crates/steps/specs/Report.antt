@@ -1,4 +1,4 @@
--- Document 01, "Trace and listing": what is told of an event: its word by number, and two numbers. The listing, the C
+-- RULES.md, "Trace and listing": what is told of an event: its word by number, and two numbers. The listing, the C
 -- library and its header go by this one table.
 use Prim.Native.Nat.{ℕ}
 use Rattle.steps.specs.declared.event.Event.{Event}

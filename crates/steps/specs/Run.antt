@@ -1,4 +1,4 @@
--- Document 01, "Descriptor and steps" and "Numbered answers": a step and a run, with their refusals.
+-- RULES.md, "Descriptor and steps" and "Numbered answers": a step and a run, with their refusals.
 use Prim.Native.Nat.{ℕ, zero, suc, _/_}
 use mathlib.Core.Bool.{true, false}
 use mathlib.Core.List.{List}

@@ -1,4 +1,4 @@
--- Document 01, "Descriptor and steps": one step does one of these: idle, fetch, move, update.
+-- RULES.md, "Descriptor and steps": one step does one of these: idle, fetch, move, update.
 use Prim.Native.Nat.{ℕ, _+_, _-_, _^_}
 use mathlib.Core.Bool.{true}
 use mathlib.Core.List.{List}

@@ -1,4 +1,4 @@
--- Document 01, "Trace and listing": what each record does and prints.
+-- RULES.md, "Trace and listing": what each record does and prints.
 use Prim.Native.Nat.{ℕ, _+_, _*_}
 use mathlib.Core.Path.{_≡_}
 use mathlib.Core.Bool.{Bool, true, false}

@@ -1,4 +1,4 @@
--- Document 01, "Trace and listing": turns on a part of a trace, and what a pass over it gives.
+-- RULES.md, "Trace and listing": turns on a part of a trace, and what a pass over it gives.
 use Prim.Native.Nat.{ℕ, zero, suc, _+_, _-_, _<_, _≤_}
 use mathlib.Core.Path.{_≡_}
 use mathlib.Core.Bool.{Bool, true, false}

@@ -1,4 +1,4 @@
--- Document 01, "Trace and listing": the lines of ST: one a step, then stop.
+-- RULES.md, "Trace and listing": the lines of ST: one a step, then stop.
 use Prim.Native.Nat.{ℕ, _+_, _-_, _*_, min}
 use mathlib.Core.Bool.{Bool, true, false, not}
 use mathlib.Core.List.{List}

@@ -1,4 +1,4 @@
--- Document 01, "Trace and listing": a record is read, judged and applied.
+-- RULES.md, "Trace and listing": a record is read, judged and applied.
 use Prim.Native.Nat.{ℕ, _+_, _≤_}
 use mathlib.Core.List.{List}
 use lib.ListN.{length}

@@ -1,4 +1,4 @@
-// Document 01, "Trace and listing": what each record does and prints, a turn at a time.
+// RULES.md, "Trace and listing": what each record does and prints, a turn at a time.
 mod effect;
 mod lines;
 pub mod pass;

@@ -1,4 +1,4 @@
--- Document 01, "Trace and listing": the listing of a whole trace, and the replays that give it. Proved in proofs/Listing.antt.
+-- RULES.md, "Trace and listing": the listing of a whole trace, and the replays that give it. Proved in proofs/Listing.antt.
 use Prim.Native.Nat.{ℕ, zero, suc, _+_, _-_, _*_}
 use mathlib.Core.Path.{_≡_}
 use mathlib.Core.Bool.{Bool, true, false}

@@ -5,7 +5,7 @@ use Prim.Native.Nat.{ℕ, _<_}
 use native.Mathlib.Omega.{arith}
 use lib.ListN.{length, getD}
 use lib.Seq.{ext-getD}
-use Rattle.listing.specs.Claims.{Claims, Single}
+use Rattle.listing.specs.Claims.{Claims, Unique}
 use Rattle.listing.proofs.Digits.{digits-right, digits-only}
 use Rattle.listing.proofs.Lines.{bodyOf, body-printed, line-ends, line-most}
 use Rattle.listing.proofs.Puts.{puts-same}
@@ -23,8 +23,8 @@ same-table : (f : ℕ → ℕ) (s t : List ℕ) → length s ≡ 1000 → length
     → ((n : ℕ) → n < 1000 → getD t n 0 ≡ f n) → s ≡ t
 same-table f s t e g h k = ext-getD 0 s t (e ∙ sym g) (λ n i. h n (omega arith) ∙ sym (k n (omega arith)))
 
-pub single : Single
-single = record {
+pub unique : Unique
+unique = record {
   fill = λ l p l′ p′ t u.
       (same-table _ l l′ (t .leading-size) (u .leading-size) (t .leads) (u .leads), same-table _ p p′ (t .padded-size) (u .padded-size) (t .pads) (u .pads));
   put-number = λ m at value closing r r′ out out′. puts-same;

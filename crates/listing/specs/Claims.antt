@@ -27,7 +27,7 @@ pub record Claims : Type 0 where
   pub short : (l : Line) → l .sequence < 2 ^ 32 → l .first < 2 ^ 64 → l .second < 2 ^ 64 → length (lineOf l) ≤ 60
 
 -- two results that one contract allows are equal
-pub record Single : Type 0 where
+pub record Unique : Type 0 where
   pub fill : (leading padded leading′ padded′ : List ℕ) → Tables leading padded → Tables leading′ padded′
       → (leading ≡ leading′) × (padded ≡ padded′)
   pub put-number : (m : List ℕ) (at value closing : ℕ) (r r′ : ℕ) (out out′ : List ℕ) → Puts m out at r (digitsOf value ++ (closing ∷ []))

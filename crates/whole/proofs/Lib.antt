@@ -4,3 +4,4 @@ pub mod Measure
 pub mod Parts
 pub mod Progress
 pub mod Sound
+pub mod Cases

@@ -1,0 +1,22 @@
+-- The whole case, by computing it.
+use mathlib.Core.Path.{refl}
+use Rattle.kit.specs.Settings.{legalWidth, legalBeats}
+use Rattle.cut.specs.Cut.{reach, burstEnd}
+use Rattle.memory.specs.Verdict.{groupOf}
+use Rattle.memory.specs.Windows.{sick}
+use Rattle.state.specs.State.{wellFormedOf}
+use Rattle.registers.specs.Write.{registerWrittenOf}
+use Rattle.steps.specs.Run.{refusalOf}
+use Rattle.steps.specs.Step.{advanceOf}
+use Rattle.record.specs.Mark.{kindOf}
+use Rattle.record.specs.Reading.{readingOf}
+use Rattle.listing.specs.Decimal.{digitsBy, digitsOf}
+use Rattle.listing.specs.Line.{lineOf, headerOf}
+use Rattle.trace.specs.Turn.{applyOf}
+use Rattle.trace.specs.Pass.{turnOn}
+use Rattle.whole.specs.Listing.{listFrom, listingOf}
+use Rattle.whole.specs.Cases.{WholeCase}
+
+pub whole-case : WholeCase
+unfolding legalWidth legalBeats reach burstEnd groupOf sick wellFormedOf registerWrittenOf refusalOf advanceOf kindOf readingOf digitsBy digitsOf lineOf headerOf applyOf turnOn listFrom listingOf
+whole-case = refl

@@ -9,7 +9,7 @@ use Rattle.state.specs.State.{wellFormedOf}
 use Rattle.registers.specs.Read.{registerOf}
 use Rattle.registers.specs.Write.{registerWrittenOf}
 use Rattle.steps.specs.Step.{acceptOf, advanceOf}
-use Rattle.steps.specs.Run.{refusalOf, walkFrom, runOf}
+use Rattle.runs.specs.Run.{refusalOf, walkFrom, runOf}
 use Rattle.monitor.specs.Flags.{flagOf, raise, validTable, heldTable, validFlags, heldFlags}
 use Rattle.monitor.specs.Monitor.{flagsOf}
 use Rattle.cases.specs.Cases.{Cases}

@@ -10,7 +10,7 @@ use Rattle.state.specs.declared.engine.Engine.{Engine}
 use Rattle.state.specs.State.{freshOf}
 use Rattle.registers.specs.Read.{readOf, gives}
 use Rattle.registers.specs.Write.{writeOf}
-use Rattle.steps.specs.Run.{AfterRun, runOf}
+use Rattle.runs.specs.Run.{AfterRun, runOf}
 use Rattle.monitor.specs.Cases.{onBus, shown}
 
 -- what a plan leaves: its answer, the number of bursts and the lent places

@@ -14,10 +14,10 @@ use Rattle.state.specs.declared.engine.Engine.{Engine}
 use Rattle.state.specs.State.{busyOf}
 use Rattle.registers.proofs.Writes.{write-keeps-settings, write-keeps-words, write-keeps-well-formed}
 use Rattle.steps.specs.Step.{AfterAdvance, begun, advanceOf}
-use Rattle.steps.specs.Run.{AfterWalk, afterSteps, walkFrom}
-use Rattle.steps.specs.Claims.{Acceptable}
+use Rattle.runs.specs.Run.{AfterWalk, afterSteps, walkFrom}
+use Rattle.runs.specs.Claims.{Acceptable}
 use Rattle.steps.proofs.Keeps.{advance-keeps}
-use Rattle.steps.proofs.Acceptable.{acceptable-unrefused, advance-acceptable}
+use Rattle.runs.proofs.Acceptable.{acceptable-unrefused, advance-acceptable}
 use Rattle.claims.specs.Transfers.{Act, step, write, read, act, after, steps, Own, left}
 use Rattle.claims.specs.Calls.{Sound, Accept, stepsOf, Run}
 

@@ -10,7 +10,7 @@ use Rattle.memory.specs.declared.window.Window.{Window}
 use Rattle.state.specs.declared.engine.Engine.{Engine}
 use Rattle.state.specs.State.{busyOf, wellFormedOf}
 use Rattle.steps.specs.Step.{begun, advanceOf}
-use Rattle.steps.specs.Run.{AfterWalk, walkFrom, refusalOf}
+use Rattle.runs.specs.Run.{AfterWalk, walkFrom, refusalOf}
 use Rattle.steps.specs.Claims.{Bytes}
 use Rattle.claims.specs.Transfers.{Act, step, write, read, act, after, steps, Own, left}
 

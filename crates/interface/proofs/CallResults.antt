@@ -15,9 +15,9 @@ use Rattle.registers.specs.declared.write.Written.{Written}
 use Rattle.state.specs.State.{wellFormedOf, interruptLineOf}
 use Rattle.registers.specs.Read.{Value, gives, noValue, readSeen}
 use Rattle.registers.specs.Write.{AfterWrite, writeSeen}
-use Rattle.steps.specs.declared.run.Stepped.{Stepped}
-use Rattle.steps.specs.declared.run.Ran.{Ran}
-use Rattle.steps.specs.Run.{AfterStep, stepSeen, AfterRun, runSeen}
+use Rattle.runs.specs.declared.run.Stepped.{Stepped}
+use Rattle.runs.specs.declared.run.Ran.{Ran}
+use Rattle.runs.specs.Run.{AfterStep, stepSeen, AfterRun, runSeen}
 use Rattle.interface.specs.declared.stepping.SteppedForC.{SteppedForC}
 use Rattle.interface.specs.EngineWords.{truth, wordsOf}
 use Rattle.interface.specs.Calls.{valueSeen, lineOf, wordsAfter, wordsSeen, wordsAfterWrite, stepReportOf, stepWordsSeen, wordsAfterStep, runWordsSeen, wordsAfterRun}

@@ -10,7 +10,7 @@ use Rattle.registers.specs.Read.{Value, gives, noValue, readOf}
 use Rattle.registers.specs.Write.{AfterWrite, writeOf}
 use Rattle.steps.specs.declared.event.Event.{Event}
 use Rattle.steps.specs.Report.{reportOf}
-use Rattle.steps.specs.Run.{AfterStep, stepOf, AfterRun, runOf}
+use Rattle.runs.specs.Run.{AfterStep, stepOf, AfterRun, runOf}
 use Rattle.interface.specs.declared.accesses.ValueForC.{ValueForC}
 use Rattle.interface.specs.declared.stepping.SteppedForC.{SteppedForC}
 use Rattle.interface.specs.declared.stepping.RanForC.{RanForC}

@@ -2,10 +2,10 @@
 use crate::engine_words::load;
 use crate::engine_words::store;
 use kit::answer::number;
+use runs::run::run;
+use runs::run::step;
 use steps::event::Event;
 use steps::report::report_of;
-use steps::run::run;
-use steps::run::step;
 ghost use mathlib.Core.Path.{_≡_};
 ghost use Rattle.interface.specs.Calls.{stepReportOf, stepWordsOf, stepWordsSeen, runWordsOf, runWordsSeen};
 

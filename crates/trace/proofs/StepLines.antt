@@ -16,9 +16,9 @@ use Rattle.memory.specs.Windows.{windowsOf}
 use Rattle.state.specs.declared.engine.Engine.{Engine}
 use Rattle.steps.specs.declared.event.Advanced.{Advanced}
 use Rattle.steps.specs.Step.{AfterAdvance, advanceSeen, advanceOf}
-use Rattle.steps.specs.Run.{refusalOf}
+use Rattle.runs.specs.Run.{refusalOf}
 use Rattle.steps.specs.Claims.{Bytes}
-use Rattle.steps.proofs.Acceptable.{acceptable-unrefused, unrefused-acceptable, advance-acceptable}
+use Rattle.runs.proofs.Acceptable.{acceptable-unrefused, unrefused-acceptable, advance-acceptable}
 use Rattle.record.specs.Claims.{longest}
 use Rattle.listing.specs.declared.line.Line.{Line}
 use Rattle.listing.specs.Line.{lineOf}

@@ -14,7 +14,7 @@ use Rattle.registers.specs.Read.{bitIf}
 use Rattle.steps.specs.declared.event.Event.{Event}
 use Rattle.steps.specs.declared.event.Event.the-variants.{None, Fetch, Move, Fault, Update, Halt}
 use Rattle.steps.specs.Step.{advanceOf}
-use Rattle.steps.specs.Run as runs
+use Rattle.runs.specs.Run as runs
 use Rattle.listing.specs.declared.line.Line.{Line}
 use Rattle.listing.specs.declared.word.Word.{Word}
 use Rattle.listing.specs.declared.word.Word.the-variants as words

@@ -6,7 +6,7 @@ use Rattle.memory.specs.Verdict.{groupOf}
 use Rattle.memory.specs.Windows.{sick}
 use Rattle.state.specs.State.{wellFormedOf}
 use Rattle.registers.specs.Write.{registerWrittenOf}
-use Rattle.steps.specs.Run.{refusalOf}
+use Rattle.runs.specs.Run.{refusalOf}
 use Rattle.steps.specs.Step.{advanceOf}
 use Rattle.record.specs.Mark.{kindOf}
 use Rattle.record.specs.Reading.{readingOf}

@@ -20,7 +20,7 @@ use Rattle.state.proofs.WellFormed.{fresh-well-formed}
 use Rattle.registers.specs.Write as registers-written
 use Rattle.registers.proofs.Writes.{write-keeps-settings, write-keeps-words, write-keeps-well-formed}
 use Rattle.steps.specs.Step.{advanceOf}
-use Rattle.steps.specs.Run.{refusalOf}
+use Rattle.runs.specs.Run.{refusalOf}
 use Rattle.steps.proofs.Keeps.{advance-keeps, advance-well-formed}
 use Rattle.steps.proofs.Stored.{take-bytes, drop-bytes, sets-bytes}
 use Rattle.monitor.specs.Monitor.{busClockOf}

@@ -18,7 +18,7 @@ use Rattle.memory.specs.Windows.{windowsOf}
 use Rattle.state.specs.declared.engine.Engine.{Engine}
 use Rattle.state.specs.State.{wellFormedOf}
 use Rattle.steps.specs.Step.{begun, advanceOf}
-use Rattle.steps.specs.Run.{refusalOf, walkFrom, stepAnswer, stepOf, runAnswer, runOf}
+use Rattle.runs.specs.Run.{refusalOf, walkFrom, stepAnswer, stepOf, runAnswer, runOf}
 use Rattle.windows.specs.Flat.{flatOf}
 use Rattle.windows.specs.Table.{most}
 use Rattle.windows.proofs.Copies.{flat-length}

@@ -2,11 +2,11 @@
 use crate::table::Table;
 use crate::table::table_of;
 use memory::window::Window;
+use runs::run::Ran;
+use runs::run::Stepped;
 use state::engine::Engine;
-use steps::run::Ran;
-use steps::run::Stepped;
 ghost use mathlib.Core.Path.{_≡_};
-ghost use Rattle.steps.specs.Run.{stepOf, stepSeen, runOf, runSeen};
+ghost use Rattle.runs.specs.Run.{stepOf, stepSeen, runOf, runSeen};
 ghost use Rattle.windows.specs.Flat.{flatOf};
 ghost use Rattle.windows.specs.Table.{inUse, Has};
 
@@ -33,7 +33,7 @@ fn step_table(engine: Engine, memory: &mut [u8], table: Table) -> Stepped
 {
     let flat = table.flat;
     let count = table.count;
-    steps::run::step(engine, memory, &flat[..count])
+    runs::run::step(engine, memory, &flat[..count])
 }
 
 // Likewise, to the run.
@@ -43,5 +43,5 @@ fn run_table(engine: Engine, memory: &mut [u8], table: Table, most: u16) -> Ran
 {
     let flat = table.flat;
     let count = table.count;
-    steps::run::run(engine, memory, &flat[..count], most)
+    runs::run::run(engine, memory, &flat[..count], most)
 }

@@ -1,5 +1,5 @@
 use Rattle.interface.proofs.CallResults.{stored, unchanged, run-result}
-use Rattle.steps.specs.Run.{runOf}
+use Rattle.runs.specs.Run.{runOf}
 use Rattle.state.specs.declared.engine.Engine.{Engine}
 use denote.Ref.{now}
 use mathlib.Core.Path.{ap, _∙_}

@@ -1,5 +1,5 @@
 use Rattle.interface.proofs.CallResults.{stored, unchanged, step-result}
-use Rattle.steps.specs.Run.{stepOf}
+use Rattle.runs.specs.Run.{stepOf}
 use Rattle.state.specs.declared.engine.Engine.{Engine}
 use denote.Ref.{now}
 use mathlib.Core.Path.{ap, _∙_}

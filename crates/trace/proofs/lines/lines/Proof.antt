@@ -19,8 +19,8 @@ use Rattle.memory.specs.Windows.{windowsOf}
 use Rattle.state.specs.declared.engine.Phase.{Phase}
 use Rattle.state.specs.State.{busyOf}
 use Rattle.steps.specs.Step.{AfterAdvance, advanceSeen, advanceOf}
-use Rattle.steps.specs.Run.{refusalOf}
-use Rattle.steps.proofs.Acceptable.{unrefused-acceptable}
+use Rattle.runs.specs.Run.{refusalOf}
+use Rattle.runs.proofs.Acceptable.{unrefused-acceptable}
 use Rattle.steps.specs.Claims.{Bytes}
 use Rattle.steps.proofs.Keeps.{advance-keeps}
 use Rattle.listing.specs.declared.line.Line.{Line}

@@ -42,10 +42,10 @@ use Rattle.memory.proofs.window.Window as P
 use Rattle.state.specs.declared.engine.Engine.{Engine}
 use Rattle.state.proofs.engine.Engine as E
 use Rattle.state.proofs.engine.Engine.Laws as E′
-use Rattle.steps.specs.declared.run.Ran.{Ran}
-use Rattle.steps.specs.Run.{runSeen, runOf}
-use Rattle.steps.proofs.run.Ran as R
-use Rattle.steps.proofs.run.Ran.Laws as R′
+use Rattle.runs.specs.declared.run.Ran.{Ran}
+use Rattle.runs.specs.Run.{runSeen, runOf}
+use Rattle.runs.proofs.run.Ran as R
+use Rattle.runs.proofs.run.Ran.Laws as R′
 use Rattle.windows.specs.declared.table.Table.{Table}
 use Rattle.windows.specs.Flat.{flatOf}
 use Rattle.windows.specs.Table.{most, inUse, Has}

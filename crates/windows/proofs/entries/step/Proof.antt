@@ -41,10 +41,10 @@ use Rattle.memory.proofs.window.Window as P
 use Rattle.state.specs.declared.engine.Engine.{Engine}
 use Rattle.state.proofs.engine.Engine as E
 use Rattle.state.proofs.engine.Engine.Laws as E′
-use Rattle.steps.specs.declared.run.Stepped.{Stepped}
-use Rattle.steps.specs.Run.{stepSeen, stepOf}
-use Rattle.steps.proofs.run.Stepped as R
-use Rattle.steps.proofs.run.Stepped.Laws as R′
+use Rattle.runs.specs.declared.run.Stepped.{Stepped}
+use Rattle.runs.specs.Run.{stepSeen, stepOf}
+use Rattle.runs.proofs.run.Stepped as R
+use Rattle.runs.proofs.run.Stepped.Laws as R′
 use Rattle.windows.specs.declared.table.Table.{Table}
 use Rattle.windows.specs.Flat.{flatOf}
 use Rattle.windows.specs.Table.{most, inUse, Has}

@@ -3,17 +3,17 @@ use Prim.Native.Nat.{_/_}
 use borrow.Author.Needs.{needs}
 use denote.Ref.{now}
 use lib.ListN.{length}
-use Rattle.steps.proofs.Acceptable.{unrefused-acceptable}
-use Rattle.steps.proofs.Entries.{step-refused, step-taken}
-use Rattle.steps.proofs.run.step.Statement.{statement}
-use Rattle.steps.proofs.run.step.Tie as tie
+use Rattle.runs.proofs.Acceptable.{unrefused-acceptable}
+use Rattle.runs.proofs.Entries.{run-refused, run-taken}
+use Rattle.runs.proofs.run.run.Statement.{statement}
+use Rattle.runs.proofs.run.run.Tie as tie
 
 returns : tie.Need-returns
 returns c =
     let a = c .before .before .before .before .before .args in
     let n = c .before .before .refusal .ensures in
     let k = c .before .number .ensures in
-    step-refused (a .engine) (now (a .memory)) (now (a .windows)) n (λ z. c .if1 .taken (k ∙ z))
+    run-refused (a .engine) (now (a .memory)) (now (a .windows)) n (a .most) (λ z. c .if1 .taken (k ∙ z))
 
 walk-requires : tie.Need-walk-requires
 walk-requires c κs =
@@ -28,9 +28,9 @@ returns-2 c =
     let a = c .before .before .before .before .before .before .before .before .before .before .args in
     let n = c .before .before .before .before .before .before .before .refusal .ensures in
     let k = c .before .before .before .before .before .before .number .ensures in
-    step-taken (a .engine) (now (a .memory)) (now (a .windows)) n (sym k ∙ c .before .before .before .before .before .if1 .left) (c .before .before .before .walk .ensures)
+    run-taken (a .engine) (now (a .memory)) (now (a .windows)) n (a .most) (sym k ∙ c .before .before .before .before .before .if1 .left) (c .before .before .before .walk .ensures)
 
-pub step-spec : {M : Type 1} → statement M
-step-spec =
+pub run-spec : {M : Type 1} → statement M
+run-spec =
     tie.close
     (tie.spec (λ c κs. search needs) (λ c κs. search needs) returns walk-requires (λ c. search needs) returns-2)

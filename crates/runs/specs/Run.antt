@@ -12,11 +12,11 @@ use Rattle.memory.specs.declared.window.Window.{Window}
 use Rattle.memory.specs.Windows.{windowsOf}
 use Rattle.state.specs.declared.engine.Engine.{Engine}
 use Rattle.state.specs.State.{busyOf, wellFormedOf}
 use Rattle.steps.specs.declared.event.Event.{Event}
-use Rattle.steps.specs.declared.run.Stepped.{Stepped}
-use Rattle.steps.specs.declared.run.Ran.{Ran}
-use Rattle.steps.specs.declared.run.Walked.{Walked}
+use Rattle.runs.specs.declared.run.Stepped.{Stepped}
+use Rattle.runs.specs.declared.run.Ran.{Ran}
+use Rattle.runs.specs.declared.run.Walked.{Walked}
 use Rattle.steps.specs.Step.{AfterAdvance, begun, advanceOf}
 
 -- step and run: 1, 2, 6, 9, the first that fits, by the memory's bytes and the number of windows
 unfoldable pub refusalOf : Engine → ℕ → ℕ → ℕ

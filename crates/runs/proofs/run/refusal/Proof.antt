@@ -2,9 +2,9 @@ use mathlib.Core.Path.{refl, sym, _∙_}
 use borrow.Author.Needs.{needs}
 use borrow.Author.Tests.{lt-ltb, le-ltb, not-true, not-false}
 use Rattle.kit.proofs.Choice.{yes, no}
-use Rattle.steps.specs.Run.{refusalOf}
-use Rattle.steps.proofs.run.refusal.Statement.{statement}
-use Rattle.steps.proofs.run.refusal.Tie as tie
+use Rattle.runs.specs.Run.{refusalOf}
+use Rattle.runs.proofs.run.refusal.Statement.{statement}
+use Rattle.runs.proofs.run.refusal.Tie as tie
 
 returns : tie.Need-returns
 unfolding refusalOf

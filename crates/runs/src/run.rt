@@ -1,7 +1,4 @@
 // One step and a run of steps, as a caller asks for them: any state, any memory, any windows.
-use crate::advance::advance;
-use crate::event::Advanced;
-use crate::event::Event;
 use kit::answer::Answer;
 use kit::answer::number;
 use kit::limits::MOST_MEMORY;
@@ -10,6 +7,9 @@ use kit::settings::legal;
 use state::engine::Engine;
 use state::engine::busy;
 use state::engine::well_formed;
+use steps::advance::advance;
+use steps::event::Advanced;
+use steps::event::Event;
 ghost use mathlib.Core.Path.{_≡_};
 ghost use mathlib.Core.Bool.{true};
 ghost use Prim.Native.Nat.{_≤_, _/_};
@@ -19,8 +19,8 @@ ghost use Rattle.kit.specs.Limits.{mostMemory};
 ghost use Rattle.kit.specs.Settings.{legalOf};
 ghost use Rattle.memory.specs.Windows.{windowsOf};
 ghost use Rattle.state.specs.State.{wellFormedOf};
 ghost use Rattle.steps.specs.Step.{begun};
-ghost use Rattle.steps.specs.Run.{refusalOf, walkFrom, walkSeen, stepOf, stepSeen, runOf, runSeen};
+ghost use Rattle.runs.specs.Run.{refusalOf, walkFrom, walkSeen, stepOf, stepSeen, runOf, runSeen};
 
 // A step's answer, its event, none beside a refusal, and the state after it.
 pub struct Stepped {

@@ -13,9 +13,10 @@ use Rattle.kit.specs.Settings.{legalOf}
 use Rattle.kit.proofs.Choice.{yes, no}
 use Rattle.kit.specs.declared.settings.Settings.{Settings}
 use Rattle.state.specs.State.{wellFormedOf}
-use Rattle.steps.specs.Run.{refusalOf}
-use Rattle.steps.specs.Claims.{Bytes, Acceptable, AcceptableUnrefused, UnrefusedAcceptable, AdvanceAcceptable}
+use Rattle.runs.specs.Run.{refusalOf}
+use Rattle.steps.specs.Claims.{Bytes}
+use Rattle.runs.specs.Claims.{Acceptable, AcceptableUnrefused, UnrefusedAcceptable, AdvanceAcceptable}
 use Rattle.steps.proofs.Keeps.{advance-keeps, advance-well-formed}
 
 pub acceptable-unrefused : AcceptableUnrefused
 unfolding refusalOf

@@ -6,10 +6,10 @@ use mathlib.Core.List.{List}
 use native.Mathlib.Omega.{arith}
 use Rattle.memory.specs.declared.window.Window.{Window}
 use Rattle.state.specs.State.{busyOf}
 use Rattle.steps.specs.Step.{AfterAdvance, advanceOf}
-use Rattle.steps.specs.Run.{AfterWalk, afterSteps, walkFrom}
-use Rattle.steps.specs.Claims.{Acceptable}
-use Rattle.steps.proofs.Acceptable.{advance-acceptable}
+use Rattle.runs.specs.Run.{AfterWalk, afterSteps, walkFrom}
+use Rattle.runs.specs.Claims.{Acceptable}
+use Rattle.runs.proofs.Acceptable.{advance-acceptable}
 
 module _ (i : ℕ) (r : AfterAdvance) (windows : List Window) where
   pub walk-none : (n : ℕ) → n ≡ 0 → walkFrom n i r windows ≡ afterSteps i r

@@ -16,12 +16,12 @@ use Rattle.state.specs.declared.engine.Engine.{Engine}
 use Rattle.state.specs.declared.engine.Phase.{Phase}
 use Rattle.state.specs.declared.engine.Phase.the-variants.{Idle, Fetch, Move, Update}
 use Rattle.state.specs.State.{busyOf}
 use Rattle.steps.specs.Step.{AfterAdvance, begun, advanceOf}
-use Rattle.steps.specs.Run.{refusalOf, AfterWalk, afterSteps, walkFrom, AfterStep, stepAnswer, stepOf, AfterRun, runAnswer, runOf}
-use Rattle.steps.specs.Claims.{StepAdvances, stepsFrom, WalkSteps, StepUnique, RunUnique}
-use Rattle.steps.proofs.Acceptable.{acceptable-unrefused, advance-acceptable}
+use Rattle.runs.specs.Run.{refusalOf, AfterWalk, afterSteps, walkFrom, AfterStep, stepAnswer, stepOf, AfterRun, runAnswer, runOf}
+use Rattle.runs.specs.Claims.{StepAdvances, stepsFrom, WalkSteps, StepUnique, RunUnique}
+use Rattle.runs.proofs.Acceptable.{acceptable-unrefused, advance-acceptable}
 use Rattle.steps.proofs.Advances.{advance-by}
-use Rattle.steps.proofs.Walks.{walk-none, walk-idle, walk-step}
+use Rattle.runs.proofs.Walks.{walk-none, walk-idle, walk-step}
 
 idle : (p : Phase) → busyOf p ≡ false → p ≡ Idle
 idle Idle e = refl

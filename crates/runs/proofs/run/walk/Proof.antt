@@ -6,13 +6,13 @@ use lib.ListN.{length}
 use borrow.Author.Needs.{needs}
 use borrow.Author.Tests.{not-true, not-false}
 use Rattle.memory.specs.Windows.{windowsOf}
 use Rattle.steps.specs.declared.event.Event.the-variants.{None}
 use Rattle.steps.specs.Step.{AfterAdvance, advanceSeen}
-use Rattle.steps.specs.Run.{walkFrom}
+use Rattle.runs.specs.Run.{walkFrom}
 use Rattle.steps.proofs.Keeps.{advance-keeps}
-use Rattle.steps.proofs.Walks.{Walking, walking-begin, walking-step, walking-done, walking-idle}
-use Rattle.steps.proofs.run.walk.Statement.{statement}
-use Rattle.steps.proofs.run.walk.Tie as tie
+use Rattle.runs.proofs.Walks.{Walking, walking-begin, walking-step, walking-done, walking-idle}
+use Rattle.runs.proofs.run.walk.Statement.{statement}
+use Rattle.runs.proofs.run.walk.Tie as tie
 
 abbrev Inv-loop : tie.InvT-loop
 Inv-loop memory₀ windows most last₀ steps₀ memory last steps =

@@ -1,0 +1,2 @@
+// RULES.md, "Descriptor and steps": one step and a run of steps, with their refusals.
+pub mod run;

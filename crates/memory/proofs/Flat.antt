@@ -17,12 +17,12 @@ use Rattle.memory.proofs.Groups.{hit}
 abbrev pub windowAt : List ℕ → ℕ → Window
 windowAt l i = record { start = getD l i 0; length = getD l (i + 1) 0 }
 
-windows-cons : (l : List ℕ) (i : ℕ) → i + 1 < length l → windowsOf (drop i l) ≡ windowAt l i ∷ windowsOf (drop (i + 2) l)
+pub windows-cons : (l : List ℕ) (i : ℕ) → i + 1 < length l → windowsOf (drop i l) ≡ windowAt l i ∷ windowsOf (drop (i + 2) l)
 windows-cons l i h =
     rw (add-one, add-two)
     (ap windowsOf (drop-cons l i 0 (omega arith) ∙ ap (λ (r : List ℕ). getD l i 0 ∷ r) (drop-cons l (suc i) 0 (omega arith))))
 
-too-few : (l : List ℕ) → length l < 2 → windowsOf l ≡ []
+pub too-few : (l : List ℕ) → length l < 2 → windowsOf l ≡ []
 too-few [] h = refl
 too-few (x ∷ []) h = refl
 too-few (x ∷ y ∷ l) h = absurd (omega arith)

@@ -27,10 +27,10 @@ module _ (w : Window) where
     from : w .start ≤ a
     below : a < w .start + w .length
 
-  record Touch (a e : ℕ) : Type 0 where
-    starts : w .start < e
-    ends : a < w .start + w .length
-    holds : 0 < w .length
+  pub record Touch (a e : ℕ) : Type 0 where
+    pub starts : w .start < e
+    pub ends : a < w .start + w .length
+    pub holds : 0 < w .length
 
   within : (a : ℕ) → inside w a ≡ true → Within a
   within a h = record {
@@ -41,7 +41,7 @@ module _ (w : Window) where
   inside-test : (a : ℕ) → Within a → inside w a ≡ true
   inside-test a h = both-join (le-leb _ _ (h .from)) (lt-ltb _ _ (h .below))
 
-  touch : (a e : ℕ) → touchesOf w a e ≡ true → Touch a e
+  pub touch : (a e : ℕ) → touchesOf w a e ≡ true → Touch a e
   touch a e h =
       let t : Bool = ltb (w .start) e in
       let u : Bool = ltb a (w .start + w .length) in
@@ -52,7 +52,7 @@ module _ (w : Window) where
         holds = ltb-true _ _ (both-right u v (both-right t (both u v) h));
       }
 
-  touch-test : (a e : ℕ) → Touch a e → touchesOf w a e ≡ true
+  pub touch-test : (a e : ℕ) → Touch a e → touchesOf w a e ≡ true
   touch-test a e h = both-join (lt-ltb _ _ (h .starts)) (both-join (lt-ltb _ _ (h .ends)) (lt-ltb _ _ (h .holds)))
 
   -- a group of one byte

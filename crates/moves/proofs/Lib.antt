@@ -1,1 +1,2 @@
+pub mod Gliding
 pub mod Moved

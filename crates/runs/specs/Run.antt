@@ -15,7 +15,7 @@ use Rattle.state.specs.State.{busyOf, wellFormedOf}
 use Rattle.steps.specs.declared.event.Event.{Event}
 use Rattle.runs.specs.declared.run.Stepped.{Stepped}
 use Rattle.runs.specs.declared.run.Ran.{Ran}
-use Rattle.runs.specs.declared.run.Walked.{Walked}
+use Rattle.runs.specs.declared.walk.Walked.{Walked}
 use Rattle.steps.specs.Step.{AfterAdvance, begun, advanceOf}
 
 -- step and run: 1, 2, 6, 9, the first that fits, by the memory's bytes and the number of windows
@@ -40,6 +40,10 @@ unfoldable pub walkFrom : ℕ → ℕ → AfterAdvance → List Window → After
 walkFrom zero i r windows = afterSteps i r
 walkFrom (suc n) i r windows =
     elim (busyOf (r .engine .phase)) [ true ↦ walkFrom n (suc i) (advanceOf (r .engine) (r .memory) windows) windows | false ↦ afterSteps i r ]
+
+-- where they stand then
+abbrev pub standsAt : Walked → List ℕ → AfterAdvance
+standsAt r m = record { event = r .event; engine = r .engine; memory = m }
 
 abbrev pub walkSeen : Walked → List ℕ → AfterWalk
 walkSeen r m = record { event = r .event; steps = r .steps; engine = r .engine; memory = m }

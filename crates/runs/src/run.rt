@@ -1,26 +1,16 @@
 // One step and a run of steps, as a caller asks for them: any state, any memory, any windows.
+use crate::walk::walk;
 use kit::answer::Answer;
 use kit::answer::number;
 use kit::limits::MOST_MEMORY;
 use kit::limits::MOST_WINDOWS;
 use kit::settings::legal;
 use state::engine::Engine;
-use state::engine::busy;
 use state::engine::well_formed;
-use steps::advance::advance;
-use steps::event::Advanced;
 use steps::event::Event;
 ghost use mathlib.Core.Path.{_≡_};
-ghost use mathlib.Core.Bool.{true};
-ghost use Prim.Native.Nat.{_≤_, _/_};
-ghost use lib.ListN.{length};
 ghost use Rattle.kit.specs.Answer.{numberOf};
-ghost use Rattle.kit.specs.Limits.{mostMemory};
-ghost use Rattle.kit.specs.Settings.{legalOf};
-ghost use Rattle.memory.specs.Windows.{windowsOf};
-ghost use Rattle.state.specs.State.{wellFormedOf};
-ghost use Rattle.steps.specs.Step.{begun};
-ghost use Rattle.runs.specs.Run.{refusalOf, walkFrom, walkSeen, stepOf, stepSeen, runOf, runSeen};
+ghost use Rattle.runs.specs.Run.{refusalOf, stepOf, stepSeen, runOf, runSeen};
 
 // A step's answer, its event, none beside a refusal, and the state after it.
 pub struct Stepped {
@@ -34,13 +24,6 @@ pub struct Ran {
     pub answer: Answer,
     pub steps: u32,
     pub engine: Engine,
-}
-
-// The last event of some steps, their number, and the state after them.
-struct Walked {
-    event: Event,
-    steps: u32,
-    engine: Engine,
 }
 
 // The first answer that fits, in the order 1, 2, 6, 9, or done.
@@ -60,37 +43,6 @@ pub fn refusal(engine: Engine, size: usize, windows: usize) -> Answer
         return Answer::State;
     }
     Answer::Done
-}
-
-// Up to `most` steps, ended early where the engine is idle. Both entry points come through here, so that the step
-// itself has one caller and is compiled into the loop.
-fn walk(engine: Engine, memory: &mut [u8], windows: &[u32], most: u32) -> Walked
-    requires { ⌜ legalOf (engine .settings) ≡ true ⌝ }
-    requires { ⌜ length (now memory) ≤ mostMemory ⌝ }
-    requires { ⌜ wellFormedOf engine ≡ true ⌝ }
-    ensures { λ r. ⌜ walkSeen r (now (memory .exit)) ≡ walkFrom most 0 (begun engine (now (memory .entry))) (windowsOf (now (windows .entry))) ⌝ }
-{
-    let mut last = Advanced {
-        event: Event::None,
-        engine,
-    };
-    let mut steps: u32 = 0;
-    while steps < most {
-        let engine = last.engine;
-        let phase = engine.phase;
-        if !busy(phase) {
-            break;
-        }
-        last = advance(engine, memory, windows);
-        steps += 1;
-    }
-    let event = last.event;
-    let engine = last.engine;
-    Walked {
-        event,
-        steps,
-        engine,
-    }
 }
 
 pub fn step(engine: Engine, memory: &mut [u8], windows: &[u32]) -> Stepped

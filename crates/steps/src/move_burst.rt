@@ -45,7 +45,7 @@ fn finish_transfer(engine: Engine) -> Engine
     }
 }
 
-fn continue_or_finish(engine: Engine, transfer: Transfer, moved: u32) -> Engine
+pub fn continue_or_finish(engine: Engine, transfer: Transfer, moved: u32) -> Engine
     ensures { λ r. ⌜ r ≡ continueOrFinishOf engine transfer moved ⌝ }
 {
     if moved == transfer.total {

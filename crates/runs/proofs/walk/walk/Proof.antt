@@ -1,4 +1,4 @@
-use mathlib.Core.Path.{_≡_, refl, sym, ap, _∙_}
+use mathlib.Core.Path.{_≡_, refl, sym, _∙_}
 use Prim.Native.Nat.{_-_}
 use mathlib.Core.Logic.{⊎-elim}
 use native.Mathlib.Omega.{arith}
@@ -7,12 +7,11 @@ use borrow.Author.Needs.{needs}
 use borrow.Author.Tests.{not-true, not-false}
 use Rattle.memory.specs.Windows.{windowsOf}
 use Rattle.steps.specs.declared.event.Event.the-variants.{None}
-use Rattle.steps.specs.Step.{AfterAdvance, advanceSeen}
+use Rattle.steps.specs.Step.{advanceSeen}
 use Rattle.runs.specs.Run.{walkFrom}
-use Rattle.steps.proofs.Keeps.{advance-keeps}
-use Rattle.runs.proofs.Walks.{Walking, walking-begin, walking-step, walking-done, walking-idle}
-use Rattle.runs.proofs.run.walk.Statement.{statement}
-use Rattle.runs.proofs.run.walk.Tie as tie
+use Rattle.runs.proofs.Walks.{reaches-length, Walking, walking-begin, walking-on, walking-done, walking-idle}
+use Rattle.runs.proofs.walk.walk.Statement.{statement}
+use Rattle.runs.proofs.walk.walk.Tie as tie
 
 abbrev Inv-loop : tie.InvT-loop
 Inv-loop memory₀ windows most last₀ steps₀ memory last steps =
@@ -27,24 +26,28 @@ loop-holds c =
     let p = c .before .before .pre in
     (refl, walking-begin (a .most) (advanceSeen (record { event = None; engine = a .engine }) (a .memory .now)) (windowsOf (a .windows .now)) (record { legal = p .0; small = p .1 .0; few = omega arith; well = p .1 .1; bytes = λ i. c .before .slice-known .given i .fits }))
 
-advance-requires : tie.Need-advance-requires Inv-loop μ-loop
-advance-requires c κs = (c .before .before .before .before .before .loop .inv .1 .acceptable .legal, c .before .before .before .before .before .loop .inv .1 .acceptable .well)
+sub-stride : tie.Need-sub-stride Inv-loop μ-loop
+sub-stride c = omega arith
+
+stride-requires : tie.Need-stride-requires Inv-loop μ-loop
+stride-requires c κs =
+    let v = c .before .before .before .before .before .loop in
+    let a = v .inv .1 .acceptable in
+    let busy = sym (c .before .before .busy .ensures) ∙ not-false _ (c .before .if1 .left) in
+    (a .legal, (a .small, (a .well, (busy, omega (arith, c .before .before .before .before .loop-test .taken)))))
 
 add-steps : tie.Need-add-steps Inv-loop μ-loop
-add-steps c = omega arith
+add-steps c = omega (arith, c .before .before .before .before .before .before .before .before .before .before .before .before .before .fits .most, c .before .before .before .before .stride .ensures .1)
 
 loop-less : tie.Need-loop-less Inv-loop μ-loop
 loop-less c = omega arith
 
 loop-again : tie.Need-loop-again Inv-loop μ-loop
 loop-again c =
-    let v = c .before .before .before .before .before .before .before .before .loop in
-    let a = c .before .before .before .before .before .before .before .before .before .before .before .args in
-    let e = c .before .before .advance .ensures in
-    let busy = sym (c .before .before .before .before .before .busy .ensures) ∙ not-false _ (c .before .before .before .before .if1 .left) in (
-      ap (λ (x : AfterAdvance). length (x .memory)) e ∙ advance-keeps (v .last .engine) (v .memory) (windowsOf (a .windows .now)) .length ∙ v .inv .0,
-      walking-step (v .inv .1) (c .before .before .before .before .before .before .before .loop-test .taken) busy e,
-    )
+    let v = c .before .before .before .before .before .before .before .before .before .before .loop in
+    let e = c .before .before .before .before .stride .ensures in
+    let busy = sym (c .before .before .before .before .before .before .before .busy .ensures) ∙ not-false _ (c .before .before .before .before .before .before .if1 .left) in
+    (reaches-length (e .0) ∙ v .inv .0, walking-on (v .inv .1) busy (e .0) (e .1 .0) (e .1 .1))
 
 same-length : tie.Need-same-length Inv-loop μ-loop
 same-length c = c .before .before .loop .inv .0
@@ -57,5 +60,5 @@ returns c =
 pub walk-spec : {M : Type 1} → statement M
 walk-spec =
     tie.close
-    (tie.spec Inv-loop μ-loop loop-holds (λ c κs. search needs) advance-requires add-steps loop-less loop-again
+    (tie.spec Inv-loop μ-loop loop-holds (λ c κs. search needs) sub-stride stride-requires add-steps loop-less loop-again
     same-length returns)

@@ -1,0 +1,88 @@
+-- Laws of `goodBytes`: every part of the good bytes answers OKAY.
+use mathlib.Core.Path.{_≡_, refl, sym, ap, _∙_}
+use mathlib.Core.Bool.{Bool, true, false}
+use mathlib.Core.List.{List, [], _∷_}
+use mathlib.Core.Logic.{_⊎_, inl, inr}
+use Prim.Native.Nat.{ℕ, zero, suc, _+_, _-_, _≤_, _<_}
+use native.Mathlib.Omega.{arith}
+use lib.ListN.{length, drop, length-drop}
+use lib.Dec.{ltb}
+use borrow.Author.Tests.{le-ltb}
+use Rattle.kit.specs.Choice.{both}
+use Rattle.kit.proofs.Choice.{yes, no, decide, never}
+use Rattle.memory.specs.declared.window.Window.{Window}
+use Rattle.memory.specs.declared.verdict.Verdict.the-variants.{Okay}
+use Rattle.memory.specs.Windows.{windowsOf}
+use Rattle.memory.specs.Interval.{touchesOf}
+use Rattle.memory.specs.Verdict.{worse, groupOf, pairOf}
+use Rattle.memory.specs.Good.{nearerEnd, goodEnd, goodBytes}
+use Rattle.memory.proofs.Touch.{Touch, touch, touch-test}
+use Rattle.memory.proofs.Groups.{hit, group-none, group-okay}
+use Rattle.memory.proofs.Flat.{windowAt, windows-cons, too-few}
+
+-- ---- one window
+
+module _ (w : Window) (a e : ℕ) where
+  nearer-by : (t : Bool) → touchesOf w a e ≡ t → nearerEnd w a e ≤ e
+  nearer-by true h =
+      let k = touch w a e h in
+      let s : nearerEnd w a e ≡ w .start = sym (yes e h refl) in
+      omega (arith, k .starts, s)
+  nearer-by false h = let s : nearerEnd w a e ≡ e = sym (no (w .start) h refl) in omega (arith, s)
+
+  nearer-less : nearerEnd w a e ≤ e
+  nearer-less = nearer-by (touchesOf w a e) refl
+
+  -- a part that ends by there has no byte in the window
+  missed : (b f : ℕ) → a ≤ b → f ≤ nearerEnd w a e → touchesOf w b f ≡ true → ⊥
+  missed b f from to t = go (touchesOf w a e) refl
+    where
+      k : Touch w b f
+      k = touch w b f t
+
+      go : (u : Bool) → touchesOf w a e ≡ u → ⊥
+      go true h = let s : nearerEnd w a e ≡ w .start = sym (yes e h refl) in omega (arith, k .starts, s, to)
+      go false h =
+          let s : nearerEnd w a e ≡ e = sym (no (w .start) h refl) in
+          never (sym h ∙ touch-test w a e (record { starts = omega (arith, k .starts, s, to); ends = omega (arith, k .ends, from); holds = k .holds }))
+
+-- ---- all windows
+
+end-less : (ws : List Window) (a e : ℕ) → goodEnd ws a e ≤ e
+unfolding goodEnd
+end-less [] a e = omega arith
+end-less (w ∷ ws) a e = let h = nearer-less w a e in let k = end-less ws a (nearerEnd w a e) in omega (arith, h, k)
+
+unhit : (ws : List Window) (a e b f : ℕ) → a ≤ b → f ≤ goodEnd ws a e → hit ws b f ≡ false
+unfolding goodEnd
+unhit [] a e b f from to = refl
+unhit (w ∷ ws) a e b f from to = go (unhit ws a (nearerEnd w a e) b f from to) (touchesOf w b f) refl
+  where
+    near : f ≤ nearerEnd w a e
+    near = let k = end-less ws a (nearerEnd w a e) in omega (arith, k, to)
+
+    go : hit ws b f ≡ false → (t : Bool) → touchesOf w b f ≡ t → hit (w ∷ ws) b f ≡ false
+    go more true h = absurd (missed w a e b f from near h)
+    go more false h = sym (no true h (sym more))
+
+module _ (size : ℕ) (ws : List Window) (a : ℕ) where
+  pub good-less : goodBytes size ws a ≤ size
+  good-less = let k = end-less ws a size in omega (arith, k)
+
+  -- every part of the good bytes is good
+  pub good-okay : (b n : ℕ) → a ≤ b → b + n ≤ a + goodBytes size ws a → 0 < n → Okay ≡ groupOf size ws b n
+  good-okay b n from to some =
+      let inside : b + n ≤ goodEnd ws a size = omega (arith, from, to, some) in
+      let k = end-less ws a size in
+      group-okay size ws b n some (omega (arith, inside, k)) (unhit ws a size b (b + n) from inside)
+
+-- ---- the windows of a flat slice, as a loop goes over them by two
+
+pub good-end : (l : List ℕ) (i a e : ℕ) → length l ≤ i + 1 → goodEnd (windowsOf (drop i l)) a e ≡ e
+unfolding goodEnd
+good-end l i a e h = ap (λ (ws : List Window). goodEnd ws a e) (too-few (drop i l) (simp length-drop (omega arith)))
+
+pub good-on : (l : List ℕ) (i a e : ℕ) → i + 1 < length l
+    → goodEnd (windowsOf (drop (i + 2) l)) a (nearerEnd (windowAt l i) a e) ≡ goodEnd (windowsOf (drop i l)) a e
+unfolding goodEnd
+good-on l i a e h = sym (ap (λ (ws : List Window). goodEnd ws a e) (windows-cons l i h))

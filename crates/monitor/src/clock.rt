@@ -4,9 +4,6 @@ ghost use Rattle.monitor.specs.Clock.{inRange};
 
 // `aresetn` is RULES.md's reset-high: ARESETn is high, the clock is out of reset.
 pub struct Clock {
-    pub aresetn: bool,
-    pub valid: bool,
-    pub ready: bool,
     pub address: u32,
     pub length: u32,
     pub size: u32,
@@ -16,6 +13,9 @@ pub struct Clock {
     pub qos: u32,
     pub region: u32,
     pub id: u32,
+    pub aresetn: bool,
+    pub valid: bool,
+    pub ready: bool,
 }
 
 impl Clock {
@@ -23,12 +23,13 @@ impl Clock {
     pub fn in_range(self) -> bool
         ensures { λ r. ⌜ r ≡ inRange self ⌝ }
     {
-        (self.length < 256)
-            & (self.size < 8)
-            & (self.burst < 4)
-            & (self.cache < 16)
-            & (self.prot < 8)
-            & (self.qos < 16)
-            & (self.region < 16)
+        let beyond = self.length / 256
+            + self.size / 8
+            + self.burst / 4
+            + self.cache / 16
+            + self.prot / 8
+            + self.qos / 16
+            + self.region / 16;
+        beyond == 0
     }
 }

@@ -1,49 +1,48 @@
-use mathlib.Core.Path.{refl}
-use lib.Dec.{lit<}
+use mathlib.Core.Path.{_≡_, refl}
 use borrow.Author.Tests.{not-true, not-false}
+use borrow.Author.Needs.{needs}
 use Rattle.kit.proofs.Choice.{yes, no}
 use Rattle.monitor.specs.Flags.{waiting, heldFlags, heldTable, raise}
-use Rattle.monitor.proofs.Raise.{line}
+use Rattle.monitor.proofs.Raise.{line, joined}
 use Rattle.monitor.proofs.flags.held_flags.Statement.{statement}
 use Rattle.monitor.proofs.flags.held_flags.Tie as tie
 
-returns : tie.Need-returns
-unfolding heldFlags
-returns c = no _ (not-true (waiting (c .before .before .before .args .before)) (c .if1 .taken)) refl
+choose-requires : tie.Need-choose-requires
+choose-requires c κs = search needs
 
-flag-requires : tie.Need-flag-requires
-flag-requires c κs = lit< tt
+choose-requires-2 : tie.Need-choose-requires-2
+choose-requires-2 c κs = search needs
 
-flag-requires-2 : tie.Need-flag-requires-2
-flag-requires-2 c κs = lit< tt
+choose-requires-3 : tie.Need-choose-requires-3
+choose-requires-3 c κs = search needs
 
-flag-requires-3 : tie.Need-flag-requires-3
-flag-requires-3 c κs = lit< tt
+choose-requires-4 : tie.Need-choose-requires-4
+choose-requires-4 c κs = search needs
 
-flag-requires-4 : tie.Need-flag-requires-4
-flag-requires-4 c κs = lit< tt
+choose-requires-5 : tie.Need-choose-requires-5
+choose-requires-5 c κs = search needs
 
-flag-requires-5 : tie.Need-flag-requires-5
-flag-requires-5 c κs = lit< tt
+choose-requires-6 : tie.Need-choose-requires-6
+choose-requires-6 c κs = search needs
 
-flag-requires-6 : tie.Need-flag-requires-6
-flag-requires-6 c κs = lit< tt
+choose-requires-7 : tie.Need-choose-requires-7
+choose-requires-7 c κs = search needs
 
-flag-requires-7 : tie.Need-flag-requires-7
-flag-requires-7 c κs = lit< tt
+choose-requires-8 : tie.Need-choose-requires-8
+choose-requires-8 c κs = search needs
 
-flag-requires-8 : tie.Need-flag-requires-8
-flag-requires-8 c κs = lit< tt
+choose-requires-9 : tie.Need-choose-requires-9
+choose-requires-9 c κs = search needs
 
-flag-requires-9 : tie.Need-flag-requires-9
-flag-requires-9 c κs = lit< tt
+choose-requires-10 : tie.Need-choose-requires-10
+choose-requires-10 c κs = search needs
 
-flag-requires-10 : tie.Need-flag-requires-10
-flag-requires-10 c κs = lit< tt
-
-returns-2 : tie.Need-returns-2
-unfolding heldFlags heldTable raise
-returns-2 c =
+-- the table, line by line
+chosen : (c : tie.After-choose10) →
+    let k = c .before .before .before .before .before .before .before .before .before .before .before .before .before .before .before .before .before .before .before .before .before .before .before .before .before .before .before .before .before .args in
+    c .choose10 .result ≡ raise 0 (heldTable (k .before) (k .clock))
+unfolding heldTable raise
+chosen c =
     let p9 = c .before .before in
     let p8 = p9 .before .before .before in
     let p7 = p8 .before .before .before in
@@ -53,25 +52,34 @@ returns-2 c =
     let p3 = p4 .before .before .before in
     let p2 = p3 .before .before .before in
     let p1 = p2 .before .before .before in
-    let p0 = p1 .before .before .before in
-    let k = p0 .before .before .before .args in
-    yes _ (not-false (waiting (k .before)) (p0 .if1 .left))
-    (line (line (line (line (line (line (line (line (line (line (refl {a = k .flags}) (p1 .flag .ensures)) (p2 .flag2 .ensures)) (p3 .flag3 .ensures)) (p4 .flag4 .ensures)) (p5 .flag5 .ensures))
-    (p6 .flag6 .ensures)) (p7 .flag7 .ensures)) (p8 .flag8 .ensures)) (p9 .flag9 .ensures)) (c .flag10 .ensures))
+    line 56 _ (line 55 _ (line 54 _ (line 53 _ (line 52 _ (line 50 _ (line 49 _ (line 48 _ (line 47 _ (line 46 _ (refl {a = 0}) (p1 .choose .ensures)) (p2 .choose2 .ensures)) (p3 .choose3 .ensures)) (p4 .choose4 .ensures)) (p5 .choose5 .ensures))
+    (p6 .choose6 .ensures)) (p7 .choose7 .ensures)) (p8 .choose8 .ensures)) (p9 .choose9 .ensures)) (c .choose10 .ensures)
+
+returns : tie.Need-returns
+unfolding heldFlags
+returns c =
+    let k = c .before .before .before .before .before .before .before .before .before .before .before .before .before .before .before .before .before .before .before .before .before .before .before .before .before .before .before .before .before .before .before .before .args in
+    no _ (not-true (waiting (k .before)) (c .if1 .taken)) refl
+
+returns-2 : tie.Need-returns-2
+unfolding heldFlags
+returns-2 c =
+    let k = c .before .before .before .before .before .before .before .before .before .before .before .before .before .before .before .before .before .before .before .before .before .before .before .before .before .before .before .before .before .before .before .before .args in
+    yes _ (not-false (waiting (k .before)) (c .if1 .left)) (joined (k .flags) (heldTable (k .before) (k .clock)) (chosen (c .before .before .before)))
 
 pub held-flags-spec : {M : Type 1} → statement M
 held-flags-spec =
     tie.close
     (tie.spec
+    choose-requires
+    choose-requires-2
+    choose-requires-3
+    choose-requires-4
+    choose-requires-5
+    choose-requires-6
+    choose-requires-7
+    choose-requires-8
+    choose-requires-9
+    choose-requires-10
     returns
-    flag-requires
-    flag-requires-2
-    flag-requires-3
-    flag-requires-4
-    flag-requires-5
-    flag-requires-6
-    flag-requires-7
-    flag-requires-8
-    flag-requires-9
-    flag-requires-10
     returns-2)

@@ -19,7 +19,7 @@ use Rattle.runs.specs.declared.run.Stepped.{Stepped}
 use Rattle.runs.specs.declared.run.Ran.{Ran}
 use Rattle.runs.specs.Run.{AfterStep, stepSeen, AfterRun, runSeen}
 use Rattle.interface.specs.declared.stepping.SteppedForC.{SteppedForC}
-use Rattle.interface.specs.EngineWords.{truth, wordsOf}
+use Rattle.words.specs.EngineWords.{truth, wordsOf}
 use Rattle.interface.specs.Calls.{valueSeen, lineOf, wordsAfter, wordsSeen, wordsAfterWrite, stepReportOf, stepWordsSeen, wordsAfterStep, runWordsSeen, wordsAfterRun}
 
 -- answer 0: the words are the engine's; any other: they are as they were

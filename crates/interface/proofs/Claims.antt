@@ -1,18 +1,6 @@
 -- The claims of specs/Claims.antt.
-use mathlib.Core.Path.{refl, sym, _∙_}
-use Rattle.interface.specs.Claims.{Words, Unique}
-use Rattle.interface.proofs.Engines.{stored-back, words-differ, read-back}
-use Rattle.interface.proofs.Monitors as monitors
-
-pub words : Words
-words = record {
-  engine-back = stored-back;
-  engines-differ = words-differ;
-  words-back = read-back;
-  fresh-engine = λ settings. refl;
-  fresh-monitor = refl;
-  monitor-back = monitors.monitor-back;
-}
+use mathlib.Core.Path.{sym, _∙_}
+use Rattle.interface.specs.Claims.{Unique}
 
 pub unique : Unique
 unique = record {

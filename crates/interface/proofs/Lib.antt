@@ -1,5 +1,3 @@
-pub mod Same
-pub mod Engines
 pub mod CallResults
-pub mod Monitors
+pub mod ClockResults
 pub mod Claims

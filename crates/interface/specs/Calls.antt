@@ -14,7 +14,7 @@ use Rattle.runs.specs.Run.{AfterStep, stepOf, AfterRun, runOf}
 use Rattle.interface.specs.declared.accesses.ValueForC.{ValueForC}
 use Rattle.interface.specs.declared.stepping.SteppedForC.{SteppedForC}
 use Rattle.interface.specs.declared.stepping.RanForC.{RanForC}
-use Rattle.interface.specs.EngineWords.{truth, wordsOf, engineOf}
+use Rattle.words.specs.EngineWords.{truth, wordsOf, engineOf}
 
 abbrev pub valueSeen : ValueForC → Value
 valueSeen r = record { answer = r .answer; value = r .value }

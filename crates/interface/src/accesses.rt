@@ -1,12 +1,12 @@
 // include/belikumba.h, "Engine": register reads and writes and the interrupt line, over an engine's words.
-use crate::engine_words::load;
-use crate::engine_words::store;
 use kit::answer::number;
 use kit::settings::legal;
 use registers::read::read;
 use registers::write::write;
 use state::engine::interrupt_line;
 use state::engine::well_formed;
+use words::engine_words::load;
+use words::engine_words::store;
 ghost use mathlib.Core.Path.{_≡_};
 ghost use Rattle.interface.specs.Calls.{valueSeen, readWordsOf, writeWordsOf, wordsSeen, lineWordsOf};
 

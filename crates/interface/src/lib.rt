@@ -1,7 +1,5 @@
 // The functions of include/belikumba.h, for a host program in C: a caller keeps its engine and its monitor as numbers.
 mod accesses;
 mod bus;
-mod engine_words;
-mod monitor_words;
 mod planning;
 mod stepping;

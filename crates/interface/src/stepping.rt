@@ -1,11 +1,11 @@
 // include/belikumba.h, "Engine": one step and a run of steps, over an engine's words.
-use crate::engine_words::load;
-use crate::engine_words::store;
 use kit::answer::number;
 use runs::run::run;
 use runs::run::step;
 use steps::event::Event;
 use steps::report::report_of;
+use words::engine_words::load;
+use words::engine_words::store;
 ghost use mathlib.Core.Path.{_≡_};
 ghost use Rattle.interface.specs.Calls.{stepReportOf, stepWordsOf, stepWordsSeen, runWordsOf, runWordsSeen};
 

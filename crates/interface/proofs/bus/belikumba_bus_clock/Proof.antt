@@ -1,4 +1,4 @@
-use Rattle.interface.proofs.Monitors.{clock-settings, clock-state, clock-bits, clock-refused, clock-taken}
+use Rattle.interface.proofs.ClockResults.{clock-settings, clock-state, clock-bits, clock-refused, clock-taken}
 use Rattle.monitor.specs.Monitor.{busClockOf}
 use Rattle.monitor.specs.declared.monitor.Monitor.{Monitor}
 use Rattle.monitor.specs.declared.clock.Clock.{Clock}

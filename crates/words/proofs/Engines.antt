@@ -1,0 +1,96 @@
+-- What is stored reads back as the same engine, and what reads back is what was stored or no engine.
+use mathlib.Core.Path.{_≡_, refl, sym, ap, _∙_}
+use Prim.Native.Nat.{ℕ}
+use mathlib.Core.Bool.{Bool, true, false}
+use mathlib.Core.List.{List, [], _∷_}
+use mathlib.Core.Logic.{_⊎_, inl, inr}
+use lib.Dec.{eqb}
+use Rattle.kit.specs.Choice.{when}
+use Rattle.kit.proofs.Choice.{yes, no}
+use Rattle.state.specs.declared.engine.Engine.{Engine}
+use Rattle.state.specs.declared.engine.ErrorBit.{ErrorBit}
+use Rattle.state.specs.declared.engine.ErrorBit.the-variants.{Clear, DmaIntErr, DmaSlvErr, DmaDecErr, SgIntErr, SgSlvErr, SgDecErr}
+use Rattle.state.specs.declared.engine.Outcome.the-variants.{Complete, Internal, Slave, Decode}
+use Rattle.state.specs.declared.engine.Phase.{Phase}
+use Rattle.state.specs.declared.engine.Phase.the-variants.{Idle, Fetch, Move, Update}
+use Rattle.state.specs.State.{freshOf, wellFormedOf}
+use Rattle.state.specs.Bits.{errorBitOf}
+use Rattle.words.specs.EngineWords.{truth, phaseNumberOf, movingOf, wordsOf, errorBitFrom, phaseFrom, settingsFrom, engineFrom, sameWords, illFormedOf, engineOf}
+use Rattle.words.proofs.Same.{same-equal, same-itself}
+
+-- words that spell e are those of e, or not
+module _ (w : List ℕ) {e : Engine} {again : List ℕ} {t : Bool} (decoded : e ≡ engineFrom w) (stored : again ≡ wordsOf e) (told : t ≡ sameWords w again) where
+  test : t ≡ sameWords w (wordsOf (engineFrom w))
+  test = told ∙ ap (λ (l : List ℕ). sameWords w l) (stored ∙ ap (λ (s : Engine). wordsOf s) decoded)
+
+  pub held : t ≡ true → e ≡ engineOf w
+  unfolding engineOf
+  held h = yes (illFormedOf (settingsFrom w)) (sym test ∙ h) decoded
+
+  pub not-held : {r : Engine} → t ≡ false → r ≡ illFormedOf (e .settings) → r ≡ engineOf w
+  unfolding engineOf
+  not-held h l = no (engineFrom w) (sym test ∙ h) (l ∙ ap (λ (s : Engine). illFormedOf (s .settings)) decoded)
+
+truth-back : (b : Bool) → eqb (truth b) 1 ≡ b
+truth-back true = refl
+truth-back false = refl
+
+bit-back : (b : ErrorBit) → errorBitFrom (errorBitOf b) ≡ b
+unfolding errorBitFrom
+bit-back Clear = refl
+bit-back DmaIntErr = refl
+bit-back DmaSlvErr = refl
+bit-back DmaDecErr = refl
+bit-back SgIntErr = refl
+bit-back SgSlvErr = refl
+bit-back SgDecErr = refl
+
+phase-back : (p : Phase) → phaseFrom (phaseNumberOf p) (movingOf p) ≡ p
+unfolding phaseFrom
+phase-back Idle = refl
+phase-back Fetch = refl
+phase-back (Move t) = refl
+phase-back (Update Complete) = refl
+phase-back (Update Internal) = refl
+phase-back (Update Slave) = refl
+phase-back (Update Decode) = refl
+
+engine-from-back : (s : Engine) → engineFrom (wordsOf s) ≡ s
+engine-from-back s =
+    λ i. record {
+      settings = s .settings;
+      control = record {
+        sgmode = truth-back (s .control .sgmode) i;
+        iocen = truth-back (s .control .iocen) i;
+        erren = truth-back (s .control .erren) i;
+      };
+      status = record {
+        fault = bit-back (s .status .fault) i;
+        ioc = truth-back (s .status .ioc) i;
+        err = truth-back (s .status .err) i;
+      };
+      pointers = s .pointers;
+      simple = s .simple;
+      phase = phase-back (s .phase) i;
+    }
+
+-- what is stored reads back as the same engine
+pub stored-back : (s : Engine) → engineOf (wordsOf s) ≡ s
+unfolding engineOf
+stored-back s =
+    let same = ap (λ (x : Engine). sameWords (wordsOf s) (wordsOf x)) (engine-from-back s) ∙ same-itself (wordsOf s) in
+    sym (yes (illFormedOf (s .settings)) same (sym (engine-from-back s)))
+
+-- an engine has one list of words
+pub words-differ : (s t : Engine) → wordsOf s ≡ wordsOf t → s ≡ t
+words-differ s t e = sym (stored-back s) ∙ ap (λ (w : List ℕ). engineOf w) e ∙ stored-back t
+
+-- any words are those of the engine that is read from them, or that engine is not well formed
+pub read-back : (w : List ℕ) → (wordsOf (engineOf w) ≡ w) ⊎ (wellFormedOf (engineOf w) ≡ false)
+unfolding engineOf wellFormedOf
+read-back w = go (sameWords w (wordsOf (engineFrom w))) refl
+  where
+    go : (t : Bool) → sameWords w (wordsOf (engineFrom w)) ≡ t
+        → (wordsOf (when t (engineFrom w) (illFormedOf (settingsFrom w))) ≡ w) ⊎ (wellFormedOf (when t (engineFrom w) (illFormedOf (settingsFrom w))) ≡ false)
+    go true e = inl (sym (same-equal w (wordsOf (engineFrom w)) e))
+    go false e = inr refl

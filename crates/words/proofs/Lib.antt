@@ -1,0 +1,4 @@
+pub mod Same
+pub mod Engines
+pub mod Monitors
+pub mod Claims

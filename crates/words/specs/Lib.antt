@@ -1,0 +1,3 @@
+pub mod EngineWords
+pub mod MonitorWords
+pub mod Claims

@@ -1,0 +1,236 @@
+// include/belikumba.h, "Engine": an engine as the 20 numbers that its caller keeps.
+use kit::settings::Settings;
+use state::engine::Control;
+use state::engine::Engine;
+use state::engine::ErrorBit;
+use state::engine::Outcome;
+use state::engine::Phase;
+use state::engine::Pointers;
+use state::engine::Simple;
+use state::engine::Status;
+use state::engine::Transfer;
+use state::engine::bit_number;
+use state::engine::fresh;
+ghost use mathlib.Core.Path.{_≡_};
+ghost use Rattle.words.specs.EngineWords.{truth as truthOf, phaseNumberOf, movingOf, wordsOf, errorBitFrom, phaseFrom, settingsFrom, controlFrom, statusFrom, pointersFrom, simpleFrom, transferFrom, engineFrom, sameWords, illFormedOf, engineOf};
+
+fn truth(set: bool) -> u32
+    ensures { λ r. ⌜ r ≡ truthOf set ⌝ }
+{
+    if set { 1 } else { 0 }
+}
+
+// An update by the bit of the status word that it is to write.
+fn phase_number(phase: Phase) -> u32
+    ensures { λ r. ⌜ r ≡ phaseNumberOf phase ⌝ }
+{
+    match phase {
+        Phase::Idle => 0,
+        Phase::Fetch => 1,
+        Phase::Move(_) => 2,
+        Phase::Update(outcome) => match outcome {
+            Outcome::Internal => 28,
+            Outcome::Slave => 29,
+            Outcome::Decode => 30,
+            Outcome::Complete => 31,
+        },
+    }
+}
+
+// The transfer that moves, or one of zeros.
+fn moving(phase: Phase) -> Transfer
+    ensures { λ r. ⌜ r ≡ movingOf phase ⌝ }
+{
+    let none = Transfer {
+        source: 0,
+        destination: 0,
+        total: 0,
+        moved: 0,
+    };
+    match phase {
+        Phase::Idle => none,
+        Phase::Fetch => none,
+        Phase::Move(transfer) => transfer,
+        Phase::Update(_) => none,
+    }
+}
+
+pub fn store(engine: Engine, words: &mut [u32; 20])
+    ensures { λ _. ⌜ now (words .exit) ≡ wordsOf engine ⌝ }
+{
+    let status = engine.status;
+    let fault = status.fault;
+    let phase = engine.phase;
+    let transfer = moving(phase);
+    *words = [
+        engine.settings.width,
+        engine.settings.beats,
+        truth(engine.control.sgmode),
+        truth(engine.control.iocen),
+        truth(engine.control.erren),
+        bit_number(fault),
+        truth(status.ioc),
+        truth(status.err),
+        engine.pointers.current,
+        engine.pointers.tail,
+        engine.pointers.next,
+        engine.pointers.heldnext,
+        engine.simple.sa,
+        engine.simple.da,
+        engine.simple.btt,
+        phase_number(phase),
+        transfer.source,
+        transfer.destination,
+        transfer.total,
+        transfer.moved,
+    ];
+}
+
+fn error_bit(number: u32) -> ErrorBit
+    ensures { λ r. ⌜ r ≡ errorBitFrom number ⌝ }
+{
+    match number {
+        4 => ErrorBit::DmaIntErr,
+        5 => ErrorBit::DmaSlvErr,
+        6 => ErrorBit::DmaDecErr,
+        8 => ErrorBit::SgIntErr,
+        9 => ErrorBit::SgSlvErr,
+        10 => ErrorBit::SgDecErr,
+        _ => ErrorBit::Clear,
+    }
+}
+
+fn phase(number: u32, transfer: Transfer) -> Phase
+    ensures { λ r. ⌜ r ≡ phaseFrom number transfer ⌝ }
+{
+    match number {
+        1 => Phase::Fetch,
+        2 => Phase::Move(transfer),
+        28 => Phase::Update(Outcome::Internal),
+        29 => Phase::Update(Outcome::Slave),
+        30 => Phase::Update(Outcome::Decode),
+        31 => Phase::Update(Outcome::Complete),
+        _ => Phase::Idle,
+    }
+}
+
+fn settings(words: &[u32; 20]) -> Settings
+    ensures { λ r. ⌜ r ≡ settingsFrom (now (words .entry)) ⌝ }
+{
+    Settings {
+        width: words[0],
+        beats: words[1],
+    }
+}
+
+fn control(words: &[u32; 20]) -> Control
+    ensures { λ r. ⌜ r ≡ controlFrom (now (words .entry)) ⌝ }
+{
+    Control {
+        sgmode: words[2] == 1,
+        iocen: words[3] == 1,
+        erren: words[4] == 1,
+    }
+}
+
+fn status(words: &[u32; 20]) -> Status
+    ensures { λ r. ⌜ r ≡ statusFrom (now (words .entry)) ⌝ }
+{
+    Status {
+        fault: error_bit(words[5]),
+        ioc: words[6] == 1,
+        err: words[7] == 1,
+    }
+}
+
+fn pointers(words: &[u32; 20]) -> Pointers
+    ensures { λ r. ⌜ r ≡ pointersFrom (now (words .entry)) ⌝ }
+{
+    Pointers {
+        current: words[8],
+        tail: words[9],
+        next: words[10],
+        heldnext: words[11],
+    }
+}
+
+fn simple(words: &[u32; 20]) -> Simple
+    ensures { λ r. ⌜ r ≡ simpleFrom (now (words .entry)) ⌝ }
+{
+    Simple {
+        sa: words[12],
+        da: words[13],
+        btt: words[14],
+    }
+}
+
+fn transfer(words: &[u32; 20]) -> Transfer
+    ensures { λ r. ⌜ r ≡ transferFrom (now (words .entry)) ⌝ }
+{
+    Transfer {
+        source: words[16],
+        destination: words[17],
+        total: words[18],
+        moved: words[19],
+    }
+}
+
+// The engine that the words spell, whether or not an engine has such words.
+fn engine_from(words: &[u32; 20]) -> Engine
+    ensures { λ r. ⌜ r ≡ engineFrom (now (words .entry)) ⌝ }
+{
+    let transfer = transfer(words);
+    Engine {
+        settings: settings(words),
+        control: control(words),
+        status: status(words),
+        pointers: pointers(words),
+        simple: simple(words),
+        phase: phase(words[15], transfer),
+    }
+}
+
+fn same(words: &[u32], others: &[u32]) -> bool
+    ensures { λ r. ⌜ r ≡ sameWords (now (words .entry)) (now (others .entry)) ⌝ }
+{
+    if words.len() != others.len() {
+        return false;
+    }
+    let mut i = 0;
+    while i < words.len() {
+        if words[i] != others[i] {
+            return false;
+        }
+        i += 1;
+    }
+    true
+}
+
+// Words that no engine has stand for one that is not well formed, so that each call on them is answered in its order.
+fn ill_formed(settings: Settings) -> Engine
+    ensures { λ r. ⌜ r ≡ illFormedOf settings ⌝ }
+{
+    let engine = fresh(settings);
+    Engine {
+        pointers: Pointers {
+            current: 1,
+            tail: 0,
+            next: 0,
+            heldnext: 0,
+        },
+        ..engine
+    }
+}
+
+pub fn load(words: &[u32; 20]) -> Engine
+    ensures { λ r. ⌜ r ≡ engineOf (now (words .entry)) ⌝ }
+{
+    let engine = engine_from(words);
+    let mut again = [0u32; 20];
+    store(engine, &mut again);
+    if same(words, &again) {
+        engine
+    } else {
+        ill_formed(engine.settings)
+    }
+}

@@ -6,7 +6,7 @@ use Rattle.plan.specs.Plan.{measureOf}
 use Rattle.memory.specs.Windows.{sick}
 use Rattle.memory.specs.Verdict.{groupOf}
 use Rattle.state.specs.State.{wellFormedOf}
-use Rattle.registers.specs.Read.{registerOf}
+use Rattle.reads.specs.Read.{registerOf}
 use Rattle.registers.specs.Write.{registerWrittenOf}
 use Rattle.steps.specs.Step.{acceptOf, advanceOf}
 use Rattle.runs.specs.Run.{refusalOf, walkFrom, runOf}

@@ -8,7 +8,7 @@ use Rattle.kit.specs.Word.{bytesOf}
 use Rattle.plan.specs.Plan.{Plan, planOf}
 use Rattle.state.specs.declared.engine.Engine.{Engine}
 use Rattle.state.specs.State.{freshOf}
-use Rattle.registers.specs.Read.{readOf, gives}
+use Rattle.reads.specs.Read.{readOf, gives}
 use Rattle.registers.specs.Write.{writeOf}
 use Rattle.runs.specs.Run.{AfterRun, runOf}
 use Rattle.monitor.specs.Cases.{onBus, shown}

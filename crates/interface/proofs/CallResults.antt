@@ -10,10 +10,10 @@ use Rattle.kit.specs.Answer.{numberOf}
 use Rattle.kit.specs.Settings.{legalOf}
 use Rattle.kit.proofs.Choice.{yes, no}
 use Rattle.state.specs.declared.engine.Engine.{Engine}
-use Rattle.registers.specs.declared.read.Reading.{Reading}
+use Rattle.reads.specs.declared.read.Reading.{Reading}
 use Rattle.registers.specs.declared.write.Written.{Written}
 use Rattle.state.specs.State.{wellFormedOf, interruptLineOf}
-use Rattle.registers.specs.Read.{Value, gives, noValue, readSeen}
+use Rattle.reads.specs.Read.{Value, gives, noValue, readSeen}
 use Rattle.registers.specs.Write.{AfterWrite, writeSeen}
 use Rattle.runs.specs.declared.run.Stepped.{Stepped}
 use Rattle.runs.specs.declared.run.Ran.{Ran}

@@ -6,7 +6,7 @@ use Rattle.kit.specs.Choice.{when}
 use Rattle.kit.specs.Settings.{legalOf}
 use Rattle.state.specs.declared.engine.Engine.{Engine}
 use Rattle.state.specs.State.{wellFormedOf, interruptLineOf}
-use Rattle.registers.specs.Read.{Value, gives, noValue, readOf}
+use Rattle.reads.specs.Read.{Value, gives, noValue, readOf}
 use Rattle.registers.specs.Write.{AfterWrite, writeOf}
 use Rattle.steps.specs.declared.event.Event.{Event}
 use Rattle.steps.specs.Report.{reportOf}

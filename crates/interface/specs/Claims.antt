@@ -3,7 +3,7 @@ use Prim.Native.Nat.{ℕ}
 use mathlib.Core.Path.{_≡_}
 use mathlib.Core.List.{List}
 use Rattle.plan.specs.Plan.{Plan}
-use Rattle.registers.specs.Read.{Value}
+use Rattle.reads.specs.Read.{Value}
 use Rattle.interface.specs.declared.planning.PlannedForC.{PlannedForC}
 use Rattle.interface.specs.declared.accesses.ValueForC.{ValueForC}
 use Rattle.interface.specs.declared.stepping.SteppedForC.{SteppedForC}

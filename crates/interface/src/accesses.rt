@@ -1,7 +1,7 @@
 // include/belikumba.h, "Engine": register reads and writes and the interrupt line, over an engine's words.
 use kit::answer::number;
 use kit::settings::legal;
-use registers::read::read;
+use reads::read::read;
 use registers::write::write;
 use state::engine::interrupt_line;
 use state::engine::well_formed;

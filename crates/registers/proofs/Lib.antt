@@ -1,4 +1,3 @@
 pub mod Claims
 pub mod Guard
-pub mod Registers
 pub mod Writes

@@ -20,7 +20,7 @@ use Rattle.state.specs.Bits.{bit, pointer, reset, sgMode, alignment}
 use Rattle.state.specs.Descriptor.{countOf, startOf}
 use Rattle.state.proofs.Start.{start-fits}
 use Rattle.state.proofs.WellFormed.{WellFormed, Parts, well-formed, parts, joined, aligned-test, not-both, fresh-well-formed}
-use Rattle.registers.specs.Read.{upperHalves}
+use Rattle.reads.specs.Read.{upperHalves}
 use Rattle.registers.specs.Write.{AfterWrite, differ, guardOf, writeControlOf, writeTailOf, startedOf, writeCountOf, registerWrittenOf, writeOf}
 use Rattle.registers.specs.Changes.{Free, Change, resets, controls, clears, points, extends, fetches, sources, destinations, moves, fails, nothing, Write, refused, changed}
 use Rattle.registers.specs.Claims.{Words}

@@ -12,7 +12,7 @@ use Rattle.state.specs.declared.engine.Phase.the-variants.{Fetch, Move}
 use Rattle.state.specs.State.{freshOf, busyOf, errorSetOf, withControl, withStatus, withFault, withErr, withCurrent, withTail, withNext, withSa, withDa, withBtt, withPhase}
 use Rattle.state.specs.Bits.{bit, pointer, reset, sgMode}
 use Rattle.state.specs.Descriptor.{countOf, startOf}
-use Rattle.registers.specs.Read.{upperHalves}
+use Rattle.reads.specs.Read.{upperHalves}
 use Rattle.registers.specs.Write.{AfterWrite, done, ignored, differ, controlFrom, clearedOf}
 
 -- no error bit is set, and the engine is idle

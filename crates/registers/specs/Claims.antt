@@ -1,16 +1,12 @@
--- What is proved of every read and write: proofs/Claims.antt.
+-- What is proved of every write: proofs/Claims.antt.
 use mathlib.Core.Path.{_≡_}
 use Prim.Native.Nat.{ℕ, _^_, _<_}
 use mathlib.Core.Bool.{true}
 use Rattle.kit.specs.Limits.{addressEnd}
-use Rattle.kit.specs.Settings.{legalOf}
-use Rattle.kit.specs.declared.settings.Settings.{Settings}
 use Rattle.state.specs.declared.engine.Engine.{Engine}
 use Rattle.state.specs.declared.engine.Simple.{Simple}
-use Rattle.state.specs.State.{freshOf, wellFormedOf}
-use Rattle.registers.specs.declared.read.Reading.{Reading}
+use Rattle.state.specs.State.{wellFormedOf}
 use Rattle.registers.specs.declared.write.Written.{Written}
-use Rattle.registers.specs.Read.{Value, gives, readOf, readSeen}
 use Rattle.registers.specs.Write.{AfterWrite, writeOf, writeSeen}
 use Rattle.registers.specs.Changes.{Write}
 
@@ -24,11 +20,7 @@ Words s = WordsOf (s .simple)
 
 pub record Claims : Type 0 where
   -- two results that one contract allows are equal
-  pub read-unique : {r q : Reading} {x : Value} → readSeen r ≡ x → readSeen q ≡ x → r ≡ q
   pub write-unique : {r q : Written} {x : AfterWrite} → writeSeen r ≡ x → writeSeen q ≡ x → r ≡ q
-  -- a fresh engine: CDMACR reads 0x00010002, CDMASR 0x0001000A
-  pub fresh-control : (x : Settings) → legalOf x ≡ true → readOf (freshOf x) 0x00 ≡ gives 0x00010002
-  pub fresh-status : (x : Settings) → legalOf x ≡ true → readOf (freshOf x) 0x04 ≡ gives 0x0001000A
   -- a write is refused and leaves the state, or is one of the changes of specs/Changes.antt
   pub writes : (s : Engine) (offset v : ℕ) → Write s offset v (writeOf s offset v)
   pub write-refused : (s : Engine) (offset v : ℕ) {n : ℕ} → writeOf s offset v .answer ≡ n → (n ≡ 0 → ⊥) → writeOf s offset v .engine ≡ s

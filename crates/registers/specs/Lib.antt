@@ -1,4 +1,3 @@
 pub mod Changes
 pub mod Claims
-pub mod Read
 pub mod Write

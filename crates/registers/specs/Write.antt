@@ -20,7 +20,7 @@ use Rattle.registers.specs.declared.write.Written.{Written}
 use Rattle.state.specs.State.{freshOf, busyOf, errorSetOf, wellFormedOf, withControl, withStatus, withCurrent, withTail, withNext, withSa, withDa, withBtt, withPhase}
 use Rattle.state.specs.Bits.{bit, pointer, reset, sgMode, iocIrqEn, errIrqEn, iocIrq, errIrq}
 use Rattle.state.specs.Descriptor.{countOf, startOf}
-use Rattle.registers.specs.Read.{upperHalves}
+use Rattle.reads.specs.Read.{upperHalves}
 
 -- an answer's number and the state after it; a refusal leaves the state as it was
 pub record AfterWrite : Type 0 where

@@ -1,3 +1,2 @@
-// RULES.md, "Registers": reading and writing the engine's registers.
-pub mod read;
+// RULES.md, "Registers": writing the registers of the engine.
 pub mod write;

@@ -14,7 +14,7 @@ use Rattle.kit.specs.Settings.{legalSettings}
 use Rattle.state.specs.declared.engine.Engine.{Engine}
 use Rattle.state.specs.State.{freshOf}
 use Rattle.registers.specs.Write as registers-written
-use Rattle.registers.specs.Read as registers-read
+use Rattle.reads.specs.Read as registers-read
 use Rattle.monitor.specs.declared.clock.Clock.{Clock}
 use Rattle.monitor.specs.Monitor as bus
 use Rattle.listing.specs.declared.line.Line.{Line}

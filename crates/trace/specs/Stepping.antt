@@ -10,7 +10,7 @@ use Rattle.state.specs.declared.engine.Engine.{Engine}
 use Rattle.state.specs.declared.engine.Phase.{Phase}
 use Rattle.state.specs.State.{busyOf}
 use Rattle.memory.specs.Windows.{windowsOf}
-use Rattle.registers.specs.Read.{bitIf}
+use Rattle.reads.specs.Read.{bitIf}
 use Rattle.steps.specs.declared.event.Event.{Event}
 use Rattle.steps.specs.declared.event.Event.the-variants.{None, Fetch, Move, Fault, Update, Halt}
 use Rattle.steps.specs.Step.{advanceOf}

@@ -11,7 +11,7 @@ use listing::line::Line;
 use listing::word::Word;
 use monitor::clock::Clock;
 use monitor::monitor::bus_clock;
-use registers::read::read;
+use reads::read::read;
 use registers::write::write;
 use state::engine::fresh;
 ghost use mathlib.Core.Path.{_≡_};

@@ -1,5 +1,5 @@
 use Rattle.interface.proofs.CallResults.{read-result}
-use Rattle.registers.specs.Read.{readOf}
+use Rattle.reads.specs.Read.{readOf}
 use Rattle.state.specs.declared.engine.Engine.{Engine}
 use mathlib.Core.Path.{ap, _∙_}
 use borrow.Author.Needs.{needs}

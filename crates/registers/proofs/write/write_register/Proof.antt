@@ -1,11 +1,11 @@
 use mathlib.Core.Path.{_≡_, sym}
 use Prim.Native.Nat.{ℕ}
-use Rattle.registers.proofs.Registers.{upper-half}
+use Rattle.reads.proofs.Registers.{upper-half}
 use borrow.Author.Tests.{ne-eqb}
 use Rattle.kit.proofs.Choice.{no}
 use Rattle.kit.proofs.Lists.{among-no}
 use Rattle.registers.specs.Write.{registerWrittenOf, writeSeen}
-use Rattle.registers.specs.Read.{upperHalves}
+use Rattle.reads.specs.Read.{upperHalves}
 use borrow.Author.Needs.{needs}
 use Rattle.registers.proofs.write.write_register.Statement.{statement}
 use Rattle.registers.proofs.write.write_register.Tie as tie

@@ -3,7 +3,7 @@ use Prim.Native.Nat.{ℕ}
 use borrow.Author.Needs.{needs}
 use borrow.Author.Tests.{eq-eqb, ne-eqb}
 use Rattle.kit.proofs.Choice.{yes, no}
-use Rattle.registers.specs.Read.{Value}
+use Rattle.reads.specs.Read.{Value}
 use Rattle.trace.specs.Effect.{withSequence}
 use Rattle.listing.specs.declared.line.Line.{Line}
 use Rattle.listing.specs.declared.word.Word.the-variants as words

@@ -3,7 +3,7 @@ use mathlib.Core.Bool.{Bool, true, false, not}
 use Prim.Native.Nat.{ℕ}
 use borrow.Author.Needs.{needs}
 use mir.Val.{boolByte}
-use Rattle.registers.specs.Read.{bitIf}
+use Rattle.reads.specs.Read.{bitIf}
 use Rattle.listing.specs.declared.word.Word.the-variants as words
 use Rattle.trace.specs.Stepping.{lineAs}
 use Rattle.trace.proofs.stepping.stop_line.Statement.{statement}

@@ -1,13 +1,13 @@
 use mathlib.Core.Path.{_≡_, refl, sym, ap, _∙_}
 use Prim.Native.Nat.{ℕ}
-use Rattle.registers.proofs.Registers.{upper-half}
+use Rattle.reads.proofs.Registers.{upper-half}
 use Rattle.kit.proofs.Lists.{among-no}
-use Rattle.registers.specs.Read.{registerOf, gives, upperHalves, readSeen}
+use Rattle.reads.specs.Read.{registerOf, gives, upperHalves, readSeen}
 use borrow.Author.Tests.{ne-eqb}
 use Rattle.kit.proofs.Choice.{no}
 use borrow.Author.Needs.{needs}
-use Rattle.registers.proofs.read.read_register.Statement.{statement}
-use Rattle.registers.proofs.read.read_register.Tie as tie
+use Rattle.reads.proofs.read.read_register.Statement.{statement}
+use Rattle.reads.proofs.read.read_register.Tie as tie
 
 read-control-requires : tie.Need-read-control-requires
 read-control-requires c κs = search needs

@@ -10,7 +10,7 @@ use Rattle.state.specs.declared.engine.Control.{Control}
 use Rattle.state.specs.declared.engine.Status.{Status}
 use Rattle.state.specs.declared.engine.Phase.{Phase}
 use Rattle.state.specs.declared.engine.Engine.{Engine}
-use Rattle.registers.specs.declared.read.Reading.{Reading}
+use Rattle.reads.specs.declared.read.Reading.{Reading}
 use Rattle.state.specs.State.{busyOf, errorSetOf, wellFormedOf}
 use Rattle.state.specs.Bits.{tailPntrEn, sgMode, iocIrqEn, errIrqEn, irqThreshold, idle, sgIncld, iocIrq, errIrq, irqThresholdSts, errorBitOf}
 

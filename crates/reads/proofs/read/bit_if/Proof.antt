@@ -4,8 +4,8 @@ use native.Mathlib.Nat.{mod-eq-of-lt, pow-le-pow-right, one-mul}
 use native.Mathlib.Omega.{arith}
 use Rattle.kit.proofs.Choice.{yes, no}
 use borrow.Author.Needs.{needs}
-use Rattle.registers.proofs.read.bit_if.Statement.{statement}
-use Rattle.registers.proofs.read.bit_if.Tie as tie
+use Rattle.reads.proofs.read.bit_if.Statement.{statement}
+use Rattle.reads.proofs.read.bit_if.Tie as tie
 
 shl-result : tie.Need-shl-result
 shl-result c = search needs

@@ -1,8 +1,8 @@
 use mathlib.Core.Path.{ap₂}
 use Prim.Native.Nat.{_+_}
 use borrow.Author.Needs.{needs}
-use Rattle.registers.proofs.read.read_control.Statement.{statement}
-use Rattle.registers.proofs.read.read_control.Tie as tie
+use Rattle.reads.proofs.read.read_control.Statement.{statement}
+use Rattle.reads.proofs.read.read_control.Tie as tie
 
 bit-if-requires : tie.Need-bit-if-requires
 bit-if-requires c κs = search needs

@@ -1,11 +1,11 @@
 use mathlib.Core.Path.{ap, ap₂, subst, sym, _∙_}
 use Prim.Native.Nat.{ℕ, _+_, _^_, _≤_}
 use mathlib.Core.Bool.{Bool, not}
-use Rattle.registers.specs.Read.{bitIf}
-use Rattle.registers.proofs.Registers.{error-bit-small}
+use Rattle.reads.specs.Read.{bitIf}
+use Rattle.reads.proofs.Registers.{error-bit-small}
 use borrow.Author.Needs.{needs}
-use Rattle.registers.proofs.read.read_status.Statement.{statement}
-use Rattle.registers.proofs.read.read_status.Tie as tie
+use Rattle.reads.proofs.read.read_status.Statement.{statement}
+use Rattle.reads.proofs.read.read_status.Tie as tie
 
 bit-if-requires : tie.Need-bit-if-requires
 bit-if-requires c κs = search needs

@@ -7,7 +7,7 @@ use types.Run.{OneOf}
 use Rattle.state.specs.declared.engine.ErrorBit.{ErrorBit}
 use Rattle.state.specs.declared.engine.ErrorBit.the-variants.{Clear, DmaIntErr, DmaSlvErr, DmaDecErr, SgIntErr, SgSlvErr, SgDecErr}
 use Rattle.state.specs.Bits.{errorBitOf}
-use Rattle.registers.specs.Read.{upperHalves}
+use Rattle.reads.specs.Read.{upperHalves}
 
 -- what holds at each upper half holds at an offset among them
 pub upper-half : (P : ℕ → Type 0) → P 0x0C → P 0x14 → P 0x1C → P 0x24 → (offset : ℕ) → OneOf upperHalves offset → P offset

@@ -2,8 +2,8 @@ use mathlib.Core.Path.{refl, sym, _∙_}
 use borrow.Author.Tests.{not-true, not-false}
 use Rattle.kit.proofs.Choice.{yes, no}
 use borrow.Author.Needs.{needs}
-use Rattle.registers.proofs.read.read.Statement.{statement}
-use Rattle.registers.proofs.read.read.Tie as tie
+use Rattle.reads.proofs.read.read.Statement.{statement}
+use Rattle.reads.proofs.read.read.Tie as tie
 
 legal-requires : tie.Need-legal-requires
 legal-requires c κs = search needs

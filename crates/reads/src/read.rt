@@ -21,7 +21,7 @@ use state::engine::error_set;
 use state::engine::well_formed;
 ghost use mathlib.Core.Path.{_≡_};
 ghost use Prim.Native.Nat.{_≤_, _^_};
-ghost use Rattle.registers.specs.Read.{bitIf, controlOf, statusOf, registerOf, readOf, readSeen, gives};
+ghost use Rattle.reads.specs.Read.{bitIf, controlOf, statusOf, registerOf, readOf, readSeen, gives};
 
 // The answer, and the value beside it, 0 beside a refusal.
 pub struct Reading {

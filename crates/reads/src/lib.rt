@@ -1,0 +1,2 @@
+// RULES.md, "Registers": reading the registers of the engine.
+pub mod read;

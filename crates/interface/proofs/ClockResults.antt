@@ -9,10 +9,10 @@ use Rattle.kit.specs.Settings.{legalSettings}
 use Rattle.kit.proofs.Choice.{yes, no}
 use Rattle.monitor.specs.declared.monitor.Clocked.{Clocked}
 use Rattle.monitor.specs.Monitor.{lowestOf, Seen, seen, busClockOf}
-use Rattle.words.specs.declared.monitor_words.ClockForC.{ClockForC}
+use Rattle.clocks.specs.declared.monitor_words.ClockForC.{ClockForC}
 use Rattle.interface.specs.declared.bus.ClockedForC.{ClockedForC}
 use Rattle.words.specs.EngineWords.{word}
-use Rattle.words.specs.MonitorWords.{clockFrom, monitorWordsOf, monitorFrom}
+use Rattle.clocks.specs.MonitorWords.{clockFrom, monitorWordsOf, monitorFrom}
 use Rattle.interface.specs.Clocks.{ClockedWords, clockedSeen, refusedOf, clockedWords, busClockWordsOf}
 
 module _ (w : List ℕ) (width beats : ℕ) (f : ClockForC) where

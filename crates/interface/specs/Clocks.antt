@@ -5,10 +5,10 @@ use lib.Dec.{eqb, ltb}
 use Rattle.kit.specs.Choice.{when}
 use Rattle.kit.specs.Settings.{legalSettings}
 use Rattle.monitor.specs.Monitor.{lowestOf, Seen, busClockOf}
-use Rattle.words.specs.declared.monitor_words.ClockForC.{ClockForC}
+use Rattle.clocks.specs.declared.monitor_words.ClockForC.{ClockForC}
 use Rattle.interface.specs.declared.bus.ClockedForC.{ClockedForC}
 use Rattle.words.specs.EngineWords.{word}
-use Rattle.words.specs.MonitorWords.{clockFrom, monitorFrom, monitorWordsOf}
+use Rattle.clocks.specs.MonitorWords.{clockFrom, monitorFrom, monitorWordsOf}
 
 -- what is handed back, and the words
 pub record ClockedWords : Type 0 where

@@ -1,12 +1,12 @@
 // include/belikumba.h, "Monitor": one bus clock over a monitor's words.
+use clocks::monitor_words::ClockForC;
+use clocks::monitor_words::clock;
+use clocks::monitor_words::load;
+use clocks::monitor_words::store;
 use kit::answer::number;
 use kit::settings::Settings;
 use kit::settings::legal;
 use monitor::monitor::bus_clock;
-use words::monitor_words::ClockForC;
-use words::monitor_words::clock;
-use words::monitor_words::load;
-use words::monitor_words::store;
 ghost use mathlib.Core.Path.{_≡_};
 ghost use Rattle.interface.specs.Clocks.{clockedSeen, busClockWordsOf, refusedOf};
 

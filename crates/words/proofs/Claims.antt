@@ -2,7 +2,6 @@
 use mathlib.Core.Path.{refl}
 use Rattle.words.specs.Claims.{Words}
 use Rattle.words.proofs.Engines.{stored-back, words-differ, read-back}
-use Rattle.words.proofs.Monitors as monitors
 
 pub words : Words
 words = record {
@@ -10,6 +9,4 @@ words = record {
   engines-differ = words-differ;
   words-back = read-back;
   fresh-engine = λ settings. refl;
-  fresh-monitor = refl;
-  monitor-back = monitors.monitor-back;
 }

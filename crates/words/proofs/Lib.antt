@@ -1,4 +1,3 @@
 pub mod Same
 pub mod Engines
-pub mod Monitors
 pub mod Claims

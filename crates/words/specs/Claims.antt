@@ -1,5 +1,5 @@
 -- include/belikumba.h: what a caller's words promise. Proved in proofs/Claims.antt.
-use Prim.Native.Nat.{ℕ, _≤_}
+use Prim.Native.Nat.{ℕ}
 use mathlib.Core.Path.{_≡_}
 use mathlib.Core.Bool.{false}
 use mathlib.Core.Logic.{_⊎_}
@@ -8,10 +8,7 @@ use lib.ListN.{replicate}
 use Rattle.kit.specs.declared.settings.Settings.{Settings}
 use Rattle.state.specs.declared.engine.Engine.{Engine}
 use Rattle.state.specs.State.{freshOf, wellFormedOf}
-use Rattle.monitor.specs.declared.monitor.Monitor.{Monitor}
-use Rattle.monitor.specs.Monitor as monitors
-use Rattle.words.specs.EngineWords.{word, wordsOf, engineOf}
-use Rattle.words.specs.MonitorWords.{monitorFrom, monitorWordsOf}
+use Rattle.words.specs.EngineWords.{wordsOf, engineOf}
 
 pub record Words : Type 0 where
   -- what is stored reads back as the same engine, so two engines have different words
@@ -19,8 +16,5 @@ pub record Words : Type 0 where
   pub engines-differ : (s t : Engine) → wordsOf s ≡ wordsOf t → s ≡ t
   -- words that are not those of the engine read from them make one that is not well formed
   pub words-back : (w : List ℕ) → (wordsOf (engineOf w) ≡ w) ⊎ (wellFormedOf (engineOf w) ≡ false)
-  -- a fresh engine's words are its settings and zeros; a fresh monitor's are zeros
+  -- a fresh engine's words are its settings and zeros
   pub fresh-engine : (settings : Settings) → wordsOf (freshOf settings) ≡ settings .width ∷ settings .beats ∷ replicate 18 0
-  pub fresh-monitor : monitorWordsOf monitors.freshOf ≡ replicate 14 0
-  -- the same of a monitor, whose word 4 is at most 7
-  pub monitor-back : (m : Monitor) → (monitorFrom (monitorWordsOf m) ≡ m) × (word (monitorWordsOf m) 4 ≤ 7)

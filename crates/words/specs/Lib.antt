@@ -1,3 +1,2 @@
 pub mod EngineWords
-pub mod MonitorWords
 pub mod Claims

@@ -5,8 +5,8 @@ use mathlib.Core.Bool.{Bool, true, false}
 use native.Mathlib.Omega.{arith}
 use lib.Dec.{eqb}
 use Rattle.monitor.specs.declared.monitor.Monitor.{Monitor}
 use Rattle.words.specs.EngineWords.{word}
-use Rattle.words.specs.MonitorWords.{bitIf, lowOf, highOf, flagsFrom, monitorWordsOf, monitorFrom}
+use Rattle.clocks.specs.MonitorWords.{bitIf, lowOf, highOf, flagsFrom, monitorWordsOf, monitorFrom}
 
 flags-back : (flags : ℕ) → flagsFrom (lowOf flags) (highOf flags) ≡ flags
 flags-back flags = omega arith

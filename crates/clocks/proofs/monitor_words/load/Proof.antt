@@ -1,9 +1,9 @@
-use Rattle.words.specs.MonitorWords.{clockFrom}
-use Rattle.words.specs.declared.monitor_words.ClockForC.{ClockForC}
+use Rattle.clocks.specs.MonitorWords.{clockFrom}
+use Rattle.clocks.specs.declared.monitor_words.ClockForC.{ClockForC}
 use mathlib.Core.Path.{ap, _∙_}
 use borrow.Author.Needs.{needs}
-use Rattle.words.proofs.monitor_words.load.Statement.{statement}
-use Rattle.words.proofs.monitor_words.load.Tie as tie
+use Rattle.clocks.proofs.monitor_words.load.Statement.{statement}
+use Rattle.clocks.proofs.monitor_words.load.Tie as tie
 
 fields-requires : tie.Need-fields-requires
 fields-requires c κs = search needs

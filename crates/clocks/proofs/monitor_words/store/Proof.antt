@@ -1,7 +1,7 @@
 use mathlib.Core.List.{[], _∷_}
 use borrow.Author.Needs.{needs}
-use Rattle.words.proofs.monitor_words.store.Statement.{statement}
-use Rattle.words.proofs.monitor_words.store.Tie as tie
+use Rattle.clocks.proofs.monitor_words.store.Statement.{statement}
+use Rattle.clocks.proofs.monitor_words.store.Tie as tie
 
 low-requires : tie.Need-low-requires
 low-requires c κs = search needs

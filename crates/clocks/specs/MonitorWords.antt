@@ -6,8 +6,8 @@ use lib.Dec.{eqb}
 use Rattle.kit.specs.Choice.{when}
 use Rattle.monitor.specs.declared.clock.Clock.{Clock}
 use Rattle.monitor.specs.declared.monitor.Monitor.{Monitor}
-use Rattle.words.specs.declared.monitor_words.ClockForC.{ClockForC}
+use Rattle.clocks.specs.declared.monitor_words.ClockForC.{ClockForC}
 use Rattle.words.specs.EngineWords.{word}
 
 abbrev pub bitIf : Bool → ℕ → ℕ
 bitIf set bit = when set bit 0

@@ -3,7 +3,7 @@ use monitor::clock::Clock;
 use monitor::monitor::Monitor;
 ghost use mathlib.Core.Path.{_≡_};
 ghost use Prim.Native.Nat.{_≤_};
-ghost use Rattle.words.specs.MonitorWords.{bitIf, bitsOf, lowOf, highOf, flagsFrom, clockFrom, fieldsFrom, monitorFrom, monitorWordsOf};
+ghost use Rattle.clocks.specs.MonitorWords.{bitIf, bitsOf, lowOf, highOf, flagsFrom, clockFrom, fieldsFrom, monitorFrom, monitorWordsOf};
 
 // The fields of a clock; bit 0 of `bits` is reset-high, bit 1 valid, bit 2 ready.
 #[repr(C)]

@@ -1,0 +1,2 @@
+pub mod MonitorWords
+pub mod Claims

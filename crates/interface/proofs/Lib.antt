@@ -1,3 +1,4 @@
 pub mod CallResults
 pub mod ClockResults
+pub mod MovedWords
 pub mod Claims

@@ -1,4 +1,5 @@
 pub mod Planning
 pub mod Calls
+pub mod Moving
 pub mod Clocks
 pub mod Claims

@@ -1,5 +1,6 @@
 // The functions of include/belikumba.h, for a host program in C: a caller keeps its engine and its monitor as numbers.
 mod accesses;
 mod bus;
+mod moving;
 mod planning;
 mod stepping;

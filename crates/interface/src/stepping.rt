@@ -1,5 +1,7 @@
 // include/belikumba.h, "Engine": one step and a run of steps, over an engine's words.
+use crate::moving::move_on_words;
 use kit::answer::number;
+use moves::move_on::MovedOn;
 use runs::run::run;
 use runs::run::step;
 use steps::event::Event;
@@ -38,12 +40,8 @@ fn step_report(answer: u32, event: Event) -> SteppedForC
     }
 }
 
-#[no_mangle]
-pub extern "C" fn belikumba_step(
-    words: &mut [u32; 20],
-    memory: &mut [u8],
-    windows: &[u32],
-) -> SteppedForC
+// Any step: the engine is read, and stored where the answer is 0.
+fn whole_step(words: &mut [u32; 20], memory: &mut [u8], windows: &[u32]) -> SteppedForC
     ensures { λ r. ⌜ stepWordsSeen r (now (words .exit)) (now (memory .exit)) ≡ stepWordsOf (now (words .entry)) (now (memory .entry)) (now (windows .entry)) ⌝ }
 {
     let stepped = step(load(words), memory, windows);
@@ -56,6 +54,21 @@ pub extern "C" fn belikumba_step(
         store(engine, words);
     }
     report
+}
+
+#[no_mangle]
+pub extern "C" fn belikumba_step(
+    words: &mut [u32; 20],
+    memory: &mut [u8],
+    windows: &[u32],
+) -> SteppedForC
+    ensures { λ r. ⌜ stepWordsSeen r (now (words .exit)) (now (memory .exit)) ≡ stepWordsOf (now (words .entry)) (now (memory .entry)) (now (windows .entry)) ⌝ }
+{
+    let moved = move_on_words(words, memory, windows);
+    match moved {
+        MovedOn::Moved(burst) => step_report(0, Event::Move(burst)),
+        MovedOn::Nothing => whole_step(words, memory, windows),
+    }
 }
 
 #[no_mangle]

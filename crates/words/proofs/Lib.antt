@@ -1,3 +1,4 @@
 pub mod Same
 pub mod Engines
+pub mod Moving
 pub mod Claims

@@ -1,2 +1,3 @@
 pub mod EngineWords
+pub mod MovingWords
 pub mod Claims

@@ -114,7 +114,7 @@ fn phase(number: u32, transfer: Transfer) -> Phase
     }
 }
 
-fn settings(words: &[u32; 20]) -> Settings
+pub fn settings(words: &[u32; 20]) -> Settings
     ensures { λ r. ⌜ r ≡ settingsFrom (now (words .entry)) ⌝ }
 {
     Settings {
@@ -164,7 +164,7 @@ fn simple(words: &[u32; 20]) -> Simple
     }
 }
 
-fn transfer(words: &[u32; 20]) -> Transfer
+pub fn transfer(words: &[u32; 20]) -> Transfer
     ensures { λ r. ⌜ r ≡ transferFrom (now (words .entry)) ⌝ }
 {
     Transfer {

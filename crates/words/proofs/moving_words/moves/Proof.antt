@@ -1,0 +1,32 @@
+use mathlib.Core.Path.{ap₂}
+use mathlib.Core.Bool.{_&&_}
+use borrow.Author.Needs.{needs}
+use Rattle.words.proofs.moving_words.moves.Statement.{statement}
+use Rattle.words.proofs.moving_words.moves.Tie as tie
+
+twenty-requires : tie.Need-twenty-requires
+twenty-requires c κs = search needs
+
+truths-requires : tie.Need-truths-requires
+truths-requires c κs = search needs
+
+aligned-requires : tie.Need-aligned-requires
+aligned-requires c κs = search needs
+
+settled-requires : tie.Need-settled-requires
+settled-requires c κs = search needs
+
+fits-requires : tie.Need-fits-requires
+fits-requires c κs = search needs
+
+returns : tie.Need-returns
+returns c =
+    let s = c .before in
+    let a = s .before in
+    let t = a .before in
+    ap₂ _&&_ (ap₂ _&&_ (ap₂ _&&_ (ap₂ _&&_ (t .before .twenty .ensures) (t .truths .ensures)) (a .aligned .ensures)) (s .settled .ensures)) (c .fits2 .ensures)
+
+pub moves-spec : {M : Type 1} → statement M
+moves-spec =
+    tie.close
+    (tie.spec twenty-requires truths-requires aligned-requires settled-requires fits-requires returns)

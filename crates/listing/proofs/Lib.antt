@@ -1,10 +1,3 @@
-pub mod Sets
-pub mod Digits
-pub mod Split
-pub mod Puts
-pub mod Entries
-pub mod Numbers
 pub mod Words
 pub mod Lines
-pub mod ByArithmetic
 pub mod Claims

@@ -11,14 +11,14 @@ use borrow.Rule.Slice.PartMut.{putMid}
 use borrow.Author.Tests.{leb-true}
 use Rattle.kit.proofs.Choice.{both-left, both-right}
 use Rattle.kit.proofs.Lists.{each}
+use Rattle.digits.specs.Decimal.{digitsOf, Every}
+use Rattle.digits.specs.Puts.{Puts}
+use Rattle.digits.proofs.Sets.{sets-cover}
+use Rattle.digits.proofs.Puts.{puts-then}
+use Rattle.digits.proofs.Digits.{every-append, digits-each, digits-some, digits-most}
 use Rattle.listing.specs.declared.line.Line.{Line}
-use Rattle.listing.specs.Decimal.{digitsOf, Every}
 use Rattle.listing.specs.Word.{blank, wordOf, spacedOf, zerosOf, eightOf}
 use Rattle.listing.specs.Line.{lineFeed, lineOf, headerOf}
-use Rattle.listing.specs.Puts.{Puts}
-use Rattle.listing.proofs.Sets.{sets-cover}
-use Rattle.listing.proofs.Puts.{puts-then}
-use Rattle.listing.proofs.Digits.{every-append, digits-each, digits-some, digits-most}
 use Rattle.listing.proofs.Words.{spaced-most, letters-small}
 
 -- ---- how a line is put

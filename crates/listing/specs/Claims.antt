@@ -4,13 +4,12 @@ use mathlib.Core.Path.{_≡_}
 use mathlib.Core.List.{List, [], _∷_, _++_}
 use lib.ListN.{length}
 use lib.Seq.{sets}
+use Rattle.digits.specs.Decimal.{Every}
+use Rattle.digits.specs.Puts.{Puts}
 use Rattle.listing.specs.declared.line.Line.{Line}
 use Rattle.listing.specs.declared.word.Word.{Word}
-use Rattle.listing.specs.Decimal.{digitsOf, Every, InDecimal}
 use Rattle.listing.specs.Word.{blank, spacedOf, eightOf}
 use Rattle.listing.specs.Line.{lineFeed, lineOf, headerOf}
-use Rattle.listing.specs.Puts.{Puts}
-use Rattle.listing.specs.Tables.{Tables}
 
 -- a text whose only control character is the line feed at its end
 pub record OneLine (text : List ℕ) : Type 0 where
@@ -18,20 +17,13 @@ pub record OneLine (text : List ℕ) : Type 0 where
   pub printed : Every (λ (x : ℕ). blank ≤ x) body
   pub ends : text ≡ body ++ (lineFeed ∷ [])
 
+-- a line is one line, of at most 60 bytes
 pub record Claims : Type 0 where
-  -- the digits of a number are its text in decimal, and there is no other
-  pub decimal : (v : ℕ) → InDecimal v (digitsOf v)
-  pub decimal-only : (v : ℕ) (us vs : List ℕ) → InDecimal v us → InDecimal v vs → us ≡ vs
-  -- a line is one line, of at most 60 bytes
   pub one-line : (l : Line) → OneLine (lineOf l)
   pub short : (l : Line) → l .sequence < 2 ^ 32 → l .first < 2 ^ 64 → l .second < 2 ^ 64 → length (lineOf l) ≤ 60
 
 -- two results that one contract allows are equal
 pub record Unique : Type 0 where
-  pub fill : (leading padded leading′ padded′ : List ℕ) → Tables leading padded → Tables leading′ padded′
-      → (leading ≡ leading′) × (padded ≡ padded′)
-  pub put-number : (m : List ℕ) (at value closing : ℕ) (r r′ : ℕ) (out out′ : List ℕ) → Puts m out at r (digitsOf value ++ (closing ∷ []))
-      → Puts m out′ at r′ (digitsOf value ++ (closing ∷ [])) → (r ≡ r′) × (out ≡ out′)
   pub put-word : (m : List ℕ) (at : ℕ) (w : Word) (r r′ : ℕ) (out out′ : List ℕ)
       → (r ≡ at + length (spacedOf w)) × (out ≡ sets m at (eightOf w))
       → (r′ ≡ at + length (spacedOf w)) × (out′ ≡ sets m at (eightOf w)) → (r ≡ r′) × (out ≡ out′)

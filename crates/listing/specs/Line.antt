@@ -1,8 +1,8 @@
 -- RULES.md, "Trace and listing": a line, and the header line, in ASCII.
 use Prim.Native.Nat.{ℕ}
 use mathlib.Core.List.{List, [], _∷_, _++_}
+use Rattle.digits.specs.Decimal.{digitsOf}
 use Rattle.listing.specs.declared.line.Line.{Line}
-use Rattle.listing.specs.Decimal.{digitsOf}
 use Rattle.listing.specs.Word.{blank, wordOf}
 
 abbrev pub lineFeed : ℕ

@@ -1,12 +1,12 @@
 // RULES.md, "Trace and listing": one line of the listing, and the header line.
-use crate::decimal::put_number;
 use crate::word::Word;
 use crate::word::put_word;
+use digits::decimal::put_number;
 ghost use Prim.Native.Nat.{_+_, _≤_};
 ghost use lib.ListN.{length};
+ghost use Rattle.digits.specs.Puts.{Puts};
+ghost use Rattle.digits.specs.Tables.{Tables};
 ghost use Rattle.listing.specs.Line.{lineOf, headerOf};
-ghost use Rattle.listing.specs.Puts.{Puts};
-ghost use Rattle.listing.specs.Tables.{Tables};
 
 pub struct Line {
     pub sequence: u32,

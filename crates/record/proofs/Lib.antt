@@ -1,5 +1,6 @@
 pub mod Marks
 pub mod Readings
+pub mod Following
 pub mod Whole
 pub mod Local
 pub mod Claims

@@ -1,4 +1,5 @@
 pub mod Mark
 pub mod Reading
+pub mod Follows
 pub mod Claims
 pub mod Cases

@@ -12,7 +12,7 @@ use crate::size;
 use kit::word;
 use monitor::clock::Clock;
 
-fn byte(input: &[u8], at: usize) -> u32
+pub fn byte(input: &[u8], at: usize) -> u32
     requires { ⌜ at < length (now input) ⌝ }
     ensures { λ r. ⌜ r ≡ getD (now (input .entry)) at 0 ⌝ }
 {
@@ -20,7 +20,7 @@ fn byte(input: &[u8], at: usize) -> u32
 }
 
 // The clock of the record at `at`, its bits read already.
-fn fields(input: &[u8], at: usize, bits: u32) -> Clock
+pub fn fields(input: &[u8], at: usize, bits: u32) -> Clock
     requires { ⌜ at + 22 ≤ length (now input) ⌝ }
     ensures { λ r. ⌜ r ≡ clockAt (now (input .entry)) at bits ⌝ }
 {

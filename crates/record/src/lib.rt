@@ -3,12 +3,13 @@ ghost use mathlib.Core.Path.{_≡_};
 ghost use Rattle.record.specs.Reading.{readingOf};
 
 mod bodies;
-mod clock;
+pub mod clock;
+pub mod follows;
 mod found;
-mod mark;
+pub mod mark;
 mod memory;
 pub mod reading;
-mod size;
+pub mod size;
 
 use kit::word;
 use reading::Reading;

@@ -1,4 +1,4 @@
-pub mod Pending
 pub mod Passes
+pub mod Places
 pub mod Progress
 pub mod Whole

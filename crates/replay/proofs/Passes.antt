@@ -6,9 +6,9 @@ use mathlib.Core.List.{List}
 use native.Mathlib.Omega.{arith}
 use lib.ListN.{length}
 use Rattle.kit.proofs.Choice.{never}
-use Rattle.trace.specs.declared.session.Session.{Session}
-use Rattle.trace.specs.declared.pass.Passed.{Passed}
-use Rattle.trace.specs.Pass.{Replay, begin, turnsOf, goesOn, Passes}
+use Rattle.session.specs.declared.Session.{Session}
+use Rattle.session.specs.declared.Passed.{Passed}
+use Rattle.session.specs.Pass.{Replay, begin, turnsOf, goesOn, Passes}
 use Rattle.whole.proofs.Parts.{turns-within}
 
 module _ (size base : ℕ) (input : List ℕ) (ended : Bool) (q : Replay) where

@@ -12,14 +12,16 @@ use borrow.Author.Tests.{ltb-false, le-leb, eq-eqb}
 use Rattle.kit.specs.Choice.{when, both}
 use Rattle.kit.proofs.Choice.{decide, never, both-join}
 use Rattle.record.specs.Claims.{longest}
-use Rattle.trace.specs.declared.session.Mode.{Mode}
-use Rattle.trace.specs.declared.session.Mode.the-variants.{Records, Steps, Over}
-use Rattle.trace.specs.declared.session.Session.{Session}
-use Rattle.trace.specs.Pass.{readyOf, lineRoom}
-use Rattle.replay.specs.declared.flow.Flow.{Flow}
-use Rattle.replay.specs.Flow.{room, leftOf, pending, Fits, wantsOf, afterRead, finishedOf, overOf, afterPass}
-use Rattle.replay.specs.Turn.{Refills, Forwards, Flows, readOf, interruptedBy, Prints, Interrupted, Progress}
-use Rattle.replay.proofs.Pending.{pending-length, refill-kept, refill-fits, used-within}
+use Rattle.session.specs.declared.Mode.{Mode}
+use Rattle.session.specs.declared.Mode.the-variants.{Records, Steps, Over}
+use Rattle.session.specs.declared.Session.{Session}
+use Rattle.session.specs.Pass.{readyOf, lineRoom}
+use Rattle.flow.specs.declared.flow.Flow.{Flow}
+use Rattle.flow.specs.Flow.{room, leftOf, pending, Fits, wantsOf, afterRead, finishedOf, overOf, afterPass}
+use Rattle.flow.specs.Input.{Refills}
+use Rattle.replay.specs.Turn.{Forwards, Flows, readOf, interruptedBy, Prints, Interrupted, Progress}
+use Rattle.flow.proofs.Pending.{pending-length, refill-kept, refill-fits}
+use Rattle.replay.proofs.Places.{used-within}
 use Rattle.whole.proofs.Progress.{pass-puts}
 use Rattle.replay.proofs.Passes.{pass-idle}
 

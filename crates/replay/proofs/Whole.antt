@@ -12,19 +12,21 @@ use borrow.Author.Tests.{eqb-true, le-ltb}
 use Rattle.kit.specs.Choice.{when}
 use Rattle.kit.specs.Limits.{mostWindows}
 use Rattle.kit.proofs.Choice.{never}
-use Rattle.trace.specs.declared.session.Mode.{Mode}
-use Rattle.trace.specs.declared.session.Mode.the-variants.{Records, Steps, Over}
-use Rattle.trace.specs.declared.session.Session.{Session}
-use Rattle.trace.specs.Pass.{readyOf}
+use Rattle.session.specs.declared.Mode.{Mode}
+use Rattle.session.specs.declared.Mode.the-variants.{Records, Steps, Over}
+use Rattle.session.specs.declared.Session.{Session}
+use Rattle.session.specs.Pass.{readyOf}
 use Rattle.listing.specs.Line.{headerOf}
 use Rattle.whole.specs.Listing.{startMemory, startWindows, Replays, begun, passed, listingOf}
 use Rattle.whole.proofs.Listing.{listing}
 use Rattle.record.specs.Claims.{longest}
-use Rattle.replay.specs.declared.flow.Flow.{Flow}
-use Rattle.replay.specs.Flow.{room, leftOf, pending, Fits, openedOf, wantsOf, afterRead, finishedOf, afterPass}
-use Rattle.replay.specs.Turn.{Begins, Refills, Forwards, Flows}
+use Rattle.flow.specs.declared.flow.Flow.{Flow}
+use Rattle.flow.specs.Flow.{room, leftOf, pending, Fits, openedOf, wantsOf, afterRead, finishedOf, afterPass}
+use Rattle.flow.specs.Input.{Refills}
+use Rattle.replay.specs.Turn.{Begins, Forwards, Flows}
 use Rattle.replay.specs.Whole.{Reached, Complete}
-use Rattle.replay.proofs.Pending.{pending-length, read-front, refill-fits, used-within, flow-fits, flow-place}
+use Rattle.flow.proofs.Pending.{pending-length, read-front, refill-fits}
+use Rattle.replay.proofs.Places.{used-within, flow-fits, flow-place}
 
 pub opened-reached : (sent : Bool) (b : List ℕ) → Reached (openedOf sent) b startMemory startWindows
 opened-reached sent b = record { used = []; text = headerOf; place = refl; replays = λ rest last. begun }

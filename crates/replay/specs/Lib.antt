@@ -1,3 +1,2 @@
-pub mod Flow
 pub mod Turn
 pub mod Whole

@@ -1,19 +1,18 @@
 -- What each function of the program does, whatever the system answers it. What a read delivers and whether a write is taken
 -- are the system's: they stand here as unknowns.
-use Prim.Native.Nat.{ℕ, _+_, _-_, _<_}
+use Prim.Native.Nat.{ℕ, _+_, _<_}
 use mathlib.Core.Path.{_≡_}
 use mathlib.Core.Logic.{_⊎_}
 use mathlib.Core.Bool.{Bool, true, false}
 use mathlib.Core.List.{List}
-use lib.ListN.{length, take, drop}
+use lib.ListN.{length, take}
 use lib.IntN.{ℤ, pos, negsuc}
-use Rattle.kit.specs.Choice.{when}
-use Rattle.libc.specs.Io.{Moved}
 use Rattle.listing.specs.Line.{headerOf}
-use Rattle.trace.specs.declared.pass.Passed.{Passed}
-use Rattle.trace.specs.Pass.{Passes}
-use Rattle.replay.specs.declared.flow.Flow.{Flow}
-use Rattle.replay.specs.Flow.{room, leftOf, pending, Fits, openedOf, wantsOf, afterRead, afterPass}
+use Rattle.session.specs.declared.Passed.{Passed}
+use Rattle.session.specs.Pass.{Passes}
+use Rattle.flow.specs.declared.flow.Flow.{Flow}
+use Rattle.flow.specs.Flow.{room, leftOf, pending, Fits, openedOf, afterPass}
+use Rattle.flow.specs.Input.{Refills}
 
 -- the header stands at the buffer's front; it is sent
 pub record Begins (r : Flow) (out′ : List ℕ) : Type 0 where
@@ -21,15 +20,6 @@ pub record Begins (r : Flow) (out′ : List ℕ) : Type 0 where
   pub header : take (length headerOf) out′ ≡ headerOf
   pub size : length out′ ≡ room
   pub is : r ≡ openedOf sent
-
--- one read if it is due; the pending bytes are as they were, and what was read comes after them
-pub record Refills (f : Flow) (b : List ℕ) (r : Flow) (b′ : List ℕ) : Type 0 where
-  pub answer : ℤ
-  pub interrupted : Bool
-  pub moved : Moved (room - leftOf f) answer
-  pub is : r ≡ when (wantsOf f) (afterRead f answer interrupted) f
-  pub kept : take (leftOf f) (drop (r .at) b′) ≡ pending f b
-  pub size : length b′ ≡ room
 
 -- one pass over the pending bytes, at their place in the trace; what it put is sent
 pub record Forwards (f : Flow) (b m w out : List ℕ) (r : Flow) (m′ w′ out′ : List ℕ) : Type 0 where

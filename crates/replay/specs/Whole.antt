@@ -5,8 +5,8 @@ use mathlib.Core.Bool.{true}
 use mathlib.Core.List.{List, [], _++_}
 use lib.ListN.{length}
 use Rattle.whole.specs.Listing.{Replays, listingOf}
-use Rattle.replay.specs.declared.flow.Flow.{Flow}
-use Rattle.replay.specs.Flow.{leftOf, pending, Fits, finishedOf}
+use Rattle.flow.specs.declared.flow.Flow.{Flow}
+use Rattle.flow.specs.Flow.{leftOf, pending, Fits, finishedOf}
 
 -- the bytes used and the text handed over are those of a replay of every trace that starts with the bytes read; if the trace
 -- has ended, of this one

@@ -1,25 +1,21 @@
 // The program: a trace on standard input, its listing on standard output. It only moves bytes; what each record does
 // and prints is the library's, trace::pass.
-mod flow;
-
-use crate::flow::Flow;
-use crate::flow::after_pass;
-use crate::flow::after_read;
-use crate::flow::opened;
-use crate::flow::wants;
-use libc::EINTR;
-use libc::STDERR_FILENO;
-use libc::STDIN_FILENO;
+use digits::tables::fill;
+use flow::flow::Flow;
+use flow::flow::after_pass;
+use flow::flow::opened;
+use flow::input::refill;
+use flow::input::report;
 use libc::STDOUT_FILENO;
 use listing::line::put_header;
-use memory::burst::copy;
 use trace::pass::pass;
 ghost use mathlib.Core.Path.{_≡_};
 ghost use Prim.Native.Nat.{_+_, _≤_, _<_, _^_};
 ghost use lib.ListN.{length};
-ghost use Rattle.replay.specs.Flow.{room, Fits};
+ghost use Rattle.digits.specs.Tables.{Tables};
+ghost use Rattle.flow.specs.Flow.{room, Fits};
 ghost use Rattle.whole.specs.Listing.{startMemory, startWindows};
-ghost use Rattle.replay.specs.Turn.{Begins, Refills, Forwards, Flows};
+ghost use Rattle.replay.specs.Turn.{Begins, Forwards, Flows};
 ghost use Rattle.replay.specs.Whole.{Reached};
 
 // A proved loop has a bound. A turn reads or prints a byte, is the last, or had its read interrupted (`Progress`), so real
@@ -28,6 +24,18 @@ ghost use Rattle.replay.specs.Whole.{Reached};
 const MOST_TURNS: u64 = 140737488355328;
 
 fn main() {
+    let mut leading_space = [0u32; 1000];
+    let mut padded_space = [0u32; 1000];
+    let leading: &mut [u32; 1000] = &mut leading_space;
+    let padded: &mut [u32; 1000] = &mut padded_space;
+    fill(leading, padded);
+    replay_trace(leading, padded);
+}
+
+// Lends a replay its memory, its windows and its two buffers.
+fn replay_trace(leading: &[u32; 1000], padded: &[u32; 1000])
+    requires { ⌜ Tables (now leading) (now padded) ⌝ }
+{
     let mut memory_space = [0u8; 32768];
     let mut windows_space = [0u32; 32];
     let mut buffer_space = io::large_buffer();
@@ -36,15 +44,20 @@ fn main() {
     let windows: &mut [u32] = &mut windows_space;
     let buffer: &mut [u8] = &mut buffer_space;
     let out: &mut [u8] = &mut out_space;
-    let flow = run(memory, windows, buffer, out);
-    if !flow.over {
-        not_whole();
-    }
+    let flow = run(memory, windows, buffer, leading, padded, out);
+    report(flow.over);
 }
 
 // Turns until the replay is over.
-fn run(memory: &mut [u8], windows: &mut [u32], buffer: &mut [u8], out: &mut [u8]) -> Flow
-    requires { ⌜ (now memory ≡ startMemory) × (now windows ≡ startWindows) × (length (now buffer) ≡ room) × (length (now out) ≡ room) ⌝ }
+fn run(
+    memory: &mut [u8],
+    windows: &mut [u32],
+    buffer: &mut [u8],
+    leading: &[u32; 1000],
+    padded: &[u32; 1000],
+    out: &mut [u8],
+) -> Flow
+    requires { ⌜ (now memory ≡ startMemory) × (now windows ≡ startWindows) × (length (now buffer) ≡ room) × (length (now out) ≡ room) × Tables (now leading) (now padded) ⌝ }
     ensures { λ r. ⌜ Fits r (now (buffer .exit)) × Reached r (now (buffer .exit)) (now (memory .exit)) (now (windows .exit)) ⌝ }
 {
     let mut flow = begin(out);
@@ -53,7 +66,7 @@ fn run(memory: &mut [u8], windows: &mut [u32], buffer: &mut [u8], out: &mut [u8]
         if flow.over {
             break;
         }
-        flow = flow_on(flow, memory, windows, buffer, out);
+        flow = flow_on(flow, memory, windows, buffer, leading, padded, out);
         turns -= 1;
     }
     flow
@@ -74,32 +87,18 @@ fn flow_on(
     memory: &mut [u8],
     windows: &mut [u32],
     buffer: &mut [u8],
+    leading: &[u32; 1000],
+    padded: &[u32; 1000],
     out: &mut [u8],
 ) -> Flow
-    requires { ⌜ Fits flow (now buffer) × (32 ≤ length (now windows)) × (length (now out) ≡ room) × (flow .position + room < 2 ^ 64) ⌝ }
+    requires { ⌜ Fits flow (now buffer) × (32 ≤ length (now windows)) × (length (now out) ≡ room) × (flow .position + room < 2 ^ 64) × Tables (now leading) (now padded) ⌝ }
     ensures { λ r. ⌜ Flows flow (now (buffer .entry)) (now (memory .entry)) (now (windows .entry)) (now (out .entry)) r (now (buffer .exit)) (now (memory .exit)) (now (windows .exit)) (now (out .exit)) ⌝ }
 {
     let flow = refill(flow, buffer);
     if flow.over {
         return flow;
     }
-    forward(flow, memory, windows, buffer, out)
-}
-
-// If too little is pending, moves it to the buffer's front and reads once.
-fn refill(flow: Flow, buffer: &mut [u8]) -> Flow
-    requires { ⌜ Fits flow (now buffer) ⌝ }
-    ensures { λ r. ⌜ Refills flow (now (buffer .entry)) r (now (buffer .exit)) ⌝ }
-{
-    if !wants(flow) {
-        return flow;
-    }
-    let at = flow.at;
-    let left = flow.filled - at;
-    copy(buffer, at, 0, left);
-    let got = libc::read(STDIN_FILENO, &mut buffer[left..]);
-    let again = interrupted(got);
-    after_read(flow, got, again)
+    forward(flow, memory, windows, buffer, leading, padded, out)
 }
 
 // The lines that the pending bytes give, and their way out.
@@ -108,9 +107,11 @@ fn forward(
     memory: &mut [u8],
     windows: &mut [u32],
     buffer: &[u8],
+    leading: &[u32; 1000],
+    padded: &[u32; 1000],
     out: &mut [u8],
 ) -> Flow
-    requires { ⌜ Fits flow (now buffer) × (32 ≤ length (now windows)) × (flow .position + room < 2 ^ 64) ⌝ }
+    requires { ⌜ Fits flow (now buffer) × (32 ≤ length (now windows)) × (flow .position + room < 2 ^ 64) × Tables (now leading) (now padded) ⌝ }
     ensures { λ r. ⌜ Forwards flow (now (buffer .entry)) (now (memory .entry)) (now (windows .entry)) (now (out .entry)) r (now (memory .exit)) (now (windows .exit)) (now (out .exit)) ⌝ }
 {
     let at = flow.at;
@@ -124,6 +125,8 @@ fn forward(
         flow.ended,
         memory,
         windows,
+        leading,
+        padded,
         out,
     );
     let sent = send(out, passed.put);
@@ -135,21 +138,4 @@ fn send(out: &[u8], put: usize) -> bool
     requires { ⌜ put ≤ length (now out) ⌝ }
 {
     io::write_all(STDOUT_FILENO, &out[..put])
-}
-
-// Whether a read that answered `got` was interrupted. If it failed otherwise, says so.
-fn interrupted(got: isize) -> bool {
-    if got >= 0 {
-        return false;
-    }
-    if os::errno() == EINTR {
-        return true;
-    }
-    not_whole();
-    false
-}
-
-fn not_whole() {
-    let text = b"replay: the trace could not be read to its end, so the listing is not whole\n";
-    io::write_all(STDERR_FILENO, text);
 }

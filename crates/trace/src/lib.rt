@@ -1,7 +1,2 @@
-// RULES.md, "Trace and listing": what each record does and prints, a turn at a time.
-mod effect;
-mod lines;
+// RULES.md, "Trace and listing": a pass over a part of a trace.
 pub mod pass;
-pub mod session;
-mod stepping;
-mod turn;

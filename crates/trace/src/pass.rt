@@ -1,57 +1,69 @@
 // Turns on a part of a trace, as many as can be taken: until a record may be cut off by the part's end, the buffer
 // for the listing is full, or the replay is over.
-use crate::lines::lines;
-use crate::session::Mode;
-use crate::session::Session;
-use crate::session::under_way;
-use crate::turn::record_turn;
-use listing::line::Line;
-use listing::plain::put_line;
+use lines::lines::lines;
+use records::records::records;
+use session::LINE_ROOM;
+use session::Mode;
+use session::Passed;
+use session::Session;
+use session::ready::ready;
 ghost use mathlib.Core.Path.{_≡_};
-ghost use Prim.Native.Nat.{_+_, _≤_, _<_, _^_};
+ghost use mathlib.Core.Bool.{true};
+ghost use Prim.Native.Nat.{_+_, _-_, _≤_, _<_, _^_};
 ghost use lib.ListN.{length};
-ghost use Rattle.listing.specs.Puts.{Puts};
-ghost use Rattle.trace.specs.Effect.{textOf};
-ghost use Rattle.trace.specs.Pass.{readyOf, Passes};
+ghost use Rattle.digits.specs.Tables.{Tables};
+ghost use Rattle.session.specs.Effect.{lend};
+ghost use Rattle.session.specs.Pass.{readyOf, Passes, Takes};
 
-// The session after the turns, the bytes of the part that were used, and the bytes that were put.
-pub struct Passed {
-    pub session: Session,
-    pub at: usize,
-    pub put: usize,
-}
-
-// No record is longer; no line is longer than this room.
-const LONGEST_RECORD: usize = 1036;
-
-const LINE_ROOM: usize = 64;
-
-// Whether a turn can be taken with `left` bytes of the part left: at the trace's end any byte is a record's.
-fn ready(mode: Mode, left: usize, ended: bool) -> bool
-    ensures { λ r. ⌜ r ≡ readyOf mode left ended ⌝ }
+// The lines of the ST that is under way, or the next record and those of its kind.
+fn turns(
+    session: Session,
+    base: u64,
+    input: &[u8],
+    at: usize,
+    ended: bool,
+    memory: &mut [u8],
+    windows: &mut [u32],
+    leading: &[u32; 1000],
+    padded: &[u32; 1000],
+    out: &mut [u8],
+    put: usize,
+) -> Passed
+    requires { ⌜ readyOf (session .mode) (length (now input) - at) ended ≡ true ⌝ }
+    requires { ⌜ (at ≤ length (now input)) × (base + length (now input) < 2 ^ 64) ⌝ }
+    requires { ⌜ 32 ≤ length (now windows) ⌝ }
+    requires { ⌜ Tables (now leading) (now padded) ⌝ }
+    requires { ⌜ put + 64 ≤ length (now out) ⌝ }
+    ensures { λ r. ⌜ Takes base (now (input .entry)) ended session at (lend (now (memory .entry)) (now (windows .entry))) (now (out .entry)) put r (lend (now (memory .exit)) (now (windows .exit))) (now (out .exit)) ⌝ }
 {
-    match mode {
-        Mode::Steps { left: _, taken: _ } => true,
-        Mode::Over => false,
-        Mode::Records => {
-            if ended {
-                0 < left
-            } else {
-                LONGEST_RECORD <= left
-            }
-        }
-    }
-}
-
-// Puts a record's line; an ST has none of its own.
-fn put_record(out: &mut [u8], at: usize, mode: Mode, line: Line) -> usize
-    requires { ⌜ at + 64 ≤ length (now out) ⌝ }
-    ensures { λ r. ⌜ Puts (now (out .entry)) (now (out .exit)) at r (textOf mode line) × (r ≤ at + 64) ⌝ }
-{
-    if under_way(mode) {
-        return at;
-    }
-    put_line(out, at, line)
+    let mode = session.mode;
+    let Mode::Steps { left, taken } = mode else {
+        return records(
+            session,
+            base,
+            input,
+            at,
+            ended,
+            memory,
+            windows,
+            leading,
+            padded,
+            out,
+            put,
+        );
+    };
+    lines(
+        session,
+        left,
+        taken,
+        at,
+        memory,
+        windows,
+        leading,
+        padded,
+        out,
+        put,
+    )
 }
 
 // `base` is the place of the part in the whole trace, and `ended` says that the trace ends with it.
@@ -62,10 +74,13 @@ pub fn pass(
     ended: bool,
     memory: &mut [u8],
     windows: &mut [u32],
+    leading: &[u32; 1000],
+    padded: &[u32; 1000],
     out: &mut [u8],
 ) -> Passed
     requires { ⌜ 32 ≤ length (now windows) ⌝ }
     requires { ⌜ base + length (now input) < 2 ^ 64 ⌝ }
+    requires { ⌜ Tables (now leading) (now padded) ⌝ }
     ensures { λ r. ⌜ Passes session base (now (input .entry)) ended (now (memory .entry)) (now (windows .entry)) (now (out .entry)) r (now (memory .exit)) (now (windows .exit)) (now (out .exit)) ⌝ }
 {
     if out.len() < LINE_ROOM {
@@ -84,19 +99,22 @@ pub fn pass(
         if !ready(mode, input.len() - at, ended) {
             break;
         }
-        if under_way(mode) {
-            let told = lines(session, memory, windows, out, put);
-            put = told.put;
-            session = told.session;
-        } else {
-            let turned = record_turn(session, base + at as u64, input, at, memory, windows);
-            let effect = turned.effect;
-            session = effect.session;
-            let mode = session.mode;
-            let line = effect.line;
-            put = put_record(out, put, mode, line);
-            at = turned.at;
-        }
+        let passed = turns(
+            session,
+            base,
+            input,
+            at,
+            ended,
+            memory,
+            windows,
+            leading,
+            padded,
+            out,
+            put,
+        );
+        session = passed.session;
+        at = passed.at;
+        put = passed.put;
     }
     Passed { session, at, put }
 }

@@ -10,10 +10,10 @@ use Rattle.runs.specs.Run.{refusalOf}
 use Rattle.steps.specs.Step.{advanceOf}
 use Rattle.record.specs.Mark.{kindOf}
 use Rattle.record.specs.Reading.{readingOf}
-use Rattle.listing.specs.Decimal.{digitsBy, digitsOf}
+use Rattle.digits.specs.Decimal.{digitsBy, digitsOf}
 use Rattle.listing.specs.Line.{lineOf, headerOf}
-use Rattle.trace.specs.Turn.{applyOf}
-use Rattle.trace.specs.Pass.{turnOn}
+use Rattle.session.specs.Turn.{applyOf}
+use Rattle.session.specs.Pass.{turnOn}
 use Rattle.whole.specs.Listing.{listFrom, listingOf}
 use Rattle.whole.specs.Cases.{WholeCase}
 

@@ -14,12 +14,12 @@ use Rattle.kit.specs.Choice.{when}
 use Rattle.kit.proofs.Choice.{decide, never, both-right}
 use Rattle.listing.specs.Line.{headerOf}
 use Rattle.record.specs.Claims.{longest}
-use Rattle.trace.specs.declared.session.Mode.{Mode}
-use Rattle.trace.specs.declared.session.Mode.the-variants as modes
-use Rattle.trace.specs.declared.session.Session.{Session}
-use Rattle.trace.specs.Effect.{Lent, lend}
-use Rattle.trace.specs.Pass.{readyOf, readyIn, lineRoom, Replay, replayAs, beginWith, turnOn, turnsOf}
-use Rattle.trace.proofs.Turns.{turns-join}
+use Rattle.session.specs.declared.Mode.{Mode}
+use Rattle.session.specs.declared.Mode.the-variants as modes
+use Rattle.session.specs.declared.Session.{Session}
+use Rattle.session.specs.Effect.{Lent, lend}
+use Rattle.session.specs.Pass.{readyOf, readyIn, lineRoom, Replay, replayAs, beginWith, turnOn, turnsOf}
+use Rattle.session.proofs.Turns.{turns-join}
 use Rattle.whole.specs.Listing.{atStart, listFrom, mostTurns, listingOf, Replays, begun, passed, Listing}
 use Rattle.whole.proofs.Parts.{seenIn, parts, turns-within}
 use Rattle.whole.proofs.Measure.{measureOf, turn-less}

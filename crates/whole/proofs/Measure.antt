@@ -17,15 +17,15 @@ use Rattle.record.specs.declared.reading.Body.the-variants.{Settings, Memory, W
 use Rattle.record.specs.declared.reading.Reading.{Reading}
 use Rattle.record.specs.declared.reading.Reading.the-variants.{Found, Refused}
 use Rattle.record.specs.Reading.{readingOf}
-use Rattle.trace.specs.declared.session.Mode.{Mode}
-use Rattle.trace.specs.declared.session.Mode.the-variants as modes
-use Rattle.trace.specs.declared.session.Session.{Session}
-use Rattle.trace.specs.declared.session.Effect.{Effect}
-use Rattle.trace.specs.Effect.{Lent, After}
-use Rattle.trace.specs.Stepping.{mostSteps, stopsOf, acceptedOf, stepLineOf}
-use Rattle.trace.specs.Turn.{applyOf, Turn, recordBy}
-use Rattle.trace.specs.Pass.{readyOf, readyIn, Replay, turnBy, turnOn}
-use Rattle.trace.proofs.Records.{inside}
+use Rattle.session.specs.declared.Mode.{Mode}
+use Rattle.session.specs.declared.Mode.the-variants as modes
+use Rattle.session.specs.declared.Session.{Session}
+use Rattle.session.specs.declared.Effect.{Effect}
+use Rattle.session.specs.Effect.{Lent, After}
+use Rattle.session.specs.Stepping.{mostSteps, stopsOf, acceptedOf, stepLineOf}
+use Rattle.session.specs.Turn.{applyOf, Turn, recordBy}
+use Rattle.session.specs.Pass.{readyOf, readyIn, Replay, turnBy, turnOn}
+use Rattle.session.proofs.Records.{inside}
 use Rattle.whole.specs.Listing.{mostTurns}
 
 -- turns that may still come with `left` bytes to read

@@ -21,16 +21,16 @@ use Rattle.record.specs.Reading.{readingOf}
 use Rattle.record.specs.Claims.{longest, shifted}
 use Rattle.record.proofs.Claims.{claims}
 use Rattle.listing.specs.Line.{lineOf}
-use Rattle.trace.specs.declared.session.Mode.{Mode}
-use Rattle.trace.specs.declared.session.Mode.the-variants as modes
-use Rattle.trace.specs.declared.session.Session.{Session}
+use Rattle.session.specs.declared.Mode.{Mode}
+use Rattle.session.specs.declared.Mode.the-variants as modes
+use Rattle.session.specs.declared.Session.{Session}
 use Rattle.listing.specs.declared.word.Word.the-variants as words
-use Rattle.trace.specs.Effect.{Lent, lend, After, after, textOf, badOf, withSequence}
-use Rattle.trace.specs.Stepping.{stepLineOf}
-use Rattle.trace.specs.Turn.{DataFits, applyOf, Turn, turnAs, recordBy, recordTurnOf}
-use Rattle.trace.specs.Pass.{readyOf, readyIn, Replay, replayAs, recordOn, turnBy, turnOn, turnsOf}
-use Rattle.trace.proofs.Records.{data-fits}
-use Rattle.trace.proofs.Turns.{turns-kept}
+use Rattle.session.specs.Effect.{Lent, lend, After, after, textOf, badOf, withSequence}
+use Rattle.session.specs.Stepping.{stepLineOf}
+use Rattle.session.specs.Turn.{DataFits, applyOf, Turn, turnAs, recordBy, recordTurnOf}
+use Rattle.session.specs.Pass.{readyOf, readyIn, Replay, replayAs, recordOn, turnBy, turnOn, turnsOf}
+use Rattle.session.proofs.Records.{data-fits}
+use Rattle.session.proofs.Turns.{turns-kept}
 
 -- a replay of a part, seen in the whole trace: `place` bytes and the lines `text` came before it
 abbrev pub seenIn : ℕ → List ℕ → Replay → Replay

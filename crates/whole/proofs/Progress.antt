@@ -12,16 +12,16 @@ use Rattle.kit.specs.Choice.{both}
 use Rattle.kit.proofs.Choice.{never, both-left, both-right, both-join}
 use Rattle.listing.specs.Line.{lineOf}
 use Rattle.listing.proofs.Lines.{line-some}
-use Rattle.trace.specs.declared.session.Mode.{Mode}
-use Rattle.trace.specs.declared.session.Mode.the-variants as modes
-use Rattle.trace.specs.declared.session.Session.{Session}
-use Rattle.trace.specs.declared.pass.Passed.{Passed}
-use Rattle.trace.specs.Effect.{underWay, textOf}
-use Rattle.trace.specs.Stepping.{stepLineOf}
-use Rattle.trace.specs.Turn.{Turn, recordTurnOf}
-use Rattle.trace.specs.Pass.{readyOf, readyIn, Replay, begin, turnBy, turnOn, turnsOf, lineRoom, goesOn, Passes}
-use Rattle.trace.proofs.Turns.{turns-join}
-use Rattle.trace.proofs.StepLines.{ready-any}
+use Rattle.session.specs.declared.Mode.{Mode}
+use Rattle.session.specs.declared.Mode.the-variants as modes
+use Rattle.session.specs.declared.Session.{Session}
+use Rattle.session.specs.declared.Passed.{Passed}
+use Rattle.session.specs.Effect.{underWay, textOf}
+use Rattle.session.specs.Stepping.{stepLineOf}
+use Rattle.session.specs.Turn.{Turn, recordTurnOf}
+use Rattle.session.specs.Pass.{readyOf, readyIn, Replay, begin, turnBy, turnOn, turnsOf, lineRoom, goesOn, Passes}
+use Rattle.session.proofs.Turns.{turns-join}
+use Rattle.session.proofs.RecordTurns.{ready-any}
 
 module _ (base : ℕ) (input : List ℕ) where
   grows : (r : Replay) → length (r .text) ≤ length (turnOn base input r .text)

@@ -31,17 +31,17 @@ use Rattle.record.specs.declared.reading.Reading.the-variants.{Found, Refused}
 use Rattle.record.specs.Reading.{readingOf}
 use Rattle.record.specs.Claims.{Bytes, Within}
 use Rattle.record.proofs.Claims.{claims}
-use Rattle.trace.specs.declared.session.Mode.{Mode}
-use Rattle.trace.specs.declared.session.Mode.the-variants as modes
-use Rattle.trace.specs.declared.session.Session.{Session}
-use Rattle.trace.specs.declared.session.Effect.{Effect}
-use Rattle.trace.specs.declared.pass.Passed.{Passed}
-use Rattle.trace.specs.Effect.{startOf, Lent, After}
-use Rattle.trace.specs.Stepping.{usedOf, stopsOf, acceptedOf, stepLineOf}
-use Rattle.trace.specs.Turn.{applyOf, Turn, recordBy}
-use Rattle.trace.specs.Pass.{readyOf, lineRoom, Replay, begin, turnBy, turnOn, turnsOf, Passes}
-use Rattle.trace.proofs.Turns.{both-no}
-use Rattle.trace.proofs.Unique.{pass-unique}
+use Rattle.session.specs.declared.Mode.{Mode}
+use Rattle.session.specs.declared.Mode.the-variants as modes
+use Rattle.session.specs.declared.Session.{Session}
+use Rattle.session.specs.declared.Effect.{Effect}
+use Rattle.session.specs.declared.Passed.{Passed}
+use Rattle.session.specs.Effect.{startOf, Lent, After}
+use Rattle.session.specs.Stepping.{usedOf, stopsOf, acceptedOf, stepLineOf}
+use Rattle.session.specs.Turn.{applyOf, Turn, recordBy}
+use Rattle.session.specs.Pass.{readyOf, lineRoom, Replay, begin, turnBy, turnOn, turnsOf, Passes}
+use Rattle.session.proofs.Turns.{both-no}
+use Rattle.session.proofs.Unique.{pass-unique}
 use Rattle.whole.specs.Listing.{startMemory, startWindows, Replays, begun, passed}
 use Rattle.whole.specs.Sound.{Sound, SoundIn, Sessions}
 use Rattle.whole.proofs.Bytes.{zero-bytes}

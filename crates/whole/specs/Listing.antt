@@ -6,11 +6,11 @@ use mathlib.Core.List.{List, [], _++_}
 use lib.ListN.{length, take, drop, replicate}
 use Rattle.kit.specs.Limits.{mostWindows}
 use Rattle.listing.specs.Line.{headerOf}
-use Rattle.trace.specs.declared.session.Session.{Session}
-use Rattle.trace.specs.declared.pass.Passed.{Passed}
-use Rattle.trace.specs.Effect.{startOf}
-use Rattle.trace.specs.Stepping.{mostSteps}
-use Rattle.trace.specs.Pass.{readyOf, readyIn, Replay, begin, turnOn, Passes}
+use Rattle.session.specs.declared.Session.{Session}
+use Rattle.session.specs.declared.Passed.{Passed}
+use Rattle.session.specs.Effect.{startOf}
+use Rattle.session.specs.Stepping.{mostSteps}
+use Rattle.session.specs.Pass.{readyOf, readyIn, Replay, begin, turnOn, Passes}
 
 -- ---- the listing
 

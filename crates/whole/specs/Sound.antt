@@ -9,12 +9,12 @@ use Rattle.kit.specs.Settings.{legalOf}
 use Rattle.state.specs.declared.engine.Engine.{Engine}
 use Rattle.state.specs.State.{wellFormedOf}
 use Rattle.record.specs.Claims.{Bytes}
-use Rattle.trace.specs.declared.session.Mode.the-variants.{Over}
-use Rattle.trace.specs.declared.session.Session.{Session}
-use Rattle.trace.specs.declared.pass.Passed.{Passed}
-use Rattle.trace.specs.Effect.{startOf}
-use Rattle.trace.specs.Stepping.{usedOf, acceptedOf}
-use Rattle.trace.specs.Pass.{Replay, turnOn, Passes}
+use Rattle.session.specs.declared.Mode.the-variants.{Over}
+use Rattle.session.specs.declared.Session.{Session}
+use Rattle.session.specs.declared.Passed.{Passed}
+use Rattle.session.specs.Effect.{startOf}
+use Rattle.session.specs.Stepping.{usedOf, acceptedOf}
+use Rattle.session.specs.Pass.{Replay, turnOn, Passes}
 use Rattle.whole.specs.Listing.{startMemory, startWindows, Replays}
 
 -- an engine, the number of sick windows, the memory and the windows' slice

@@ -2,7 +2,7 @@ use mathlib.Core.Path.{refl, sym, _∙_}
 use native.Mathlib.Omega.{arith}
 use borrow.Author.Needs.{needs}
 use Rattle.kit.proofs.Choice.{never}
-use Rattle.replay.proofs.Pending.{refill-kept, refill-fits}
+use Rattle.flow.proofs.Pending.{refill-kept, refill-fits}
 use Rattle.replay.proofs.flow_on.Statement.{statement}
 use Rattle.replay.proofs.flow_on.Tie as tie
 
@@ -25,7 +25,7 @@ forward-requires : tie.Need-forward-requires
 forward-requires c κs =
     let pre = c .before .before .before .before .before .before .before .before .before .before .before .before .before .pre in
     let t = c .before .before .before .before .before .before .before .refill .ensures in
-    (refill-fits (pre .0) t, pre .1, omega (arith, pre .3, refill-kept (pre .0) t .place))
+    (refill-fits (pre .0) t, pre .1, omega (arith, pre .3, refill-kept (pre .0) t .place), pre .4)
 
 same-length-2 : tie.Need-same-length-2
 same-length-2 c = search needs

@@ -2,7 +2,7 @@ use Prim.Native.Nat.{_+_}
 use native.Mathlib.Omega.{arith}
 use borrow.Author.Needs.{needs}
 use Rattle.replay.proofs.Passes.{pass-within}
-use Rattle.replay.proofs.Pending.{pending-length}
+use Rattle.flow.proofs.Pending.{pending-length}
 use Rattle.replay.proofs.forward.Statement.{statement}
 use Rattle.replay.proofs.forward.Tie as tie
 
@@ -16,7 +16,7 @@ part-part-end : tie.Need-part-part-end
 part-part-end c = search needs
 
 pass-requires : tie.Need-pass-requires
-pass-requires c κs = search needs
+pass-requires c κs = let pre = c .before .before .before .before .before .before .before .before .before .pre in (pre .1, (search needs, pre .3))
 
 send-requires : tie.Need-send-requires
 send-requires c κs = search needs

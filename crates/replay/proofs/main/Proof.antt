@@ -1,50 +1,15 @@
-use mathlib.Core.Path.{refl}
-use native.Mathlib.Omega.{arith}
 use borrow.Author.Needs.{needs}
 use Rattle.replay.proofs.main.Statement.{statement}
 use Rattle.replay.proofs.main.Tie as tie
 
-large-buffer-requires : tie.Need-large-buffer-requires
-large-buffer-requires c κs = search needs
+fill-requires : tie.Need-fill-requires
+fill-requires c κs = search needs
 
-large-buffer-requires-2 : tie.Need-large-buffer-requires-2
-large-buffer-requires-2 c κs = search needs
-
-slice-aggregate-memory : tie.Need-slice-aggregate-memory
-slice-aggregate-memory c = search needs
-
-slice-aggregate-windows : tie.Need-slice-aggregate-windows
-slice-aggregate-windows c = search needs
-
-slice-aggregate-buffer : tie.Need-slice-aggregate-buffer
-slice-aggregate-buffer c = search needs
-
-slice-aggregate-out : tie.Need-slice-aggregate-out
-slice-aggregate-out c = search needs
-
-run-requires : tie.Need-run-requires
-run-requires c κs = (refl, refl, omega arith, omega arith)
-
-not-whole-requires : tie.Need-not-whole-requires
-not-whole-requires c κs = search needs
+replay-trace-requires : tie.Need-replay-trace-requires
+replay-trace-requires c κs = c .before .before .fill .ensures
 
 returns : tie.Need-returns
 returns c = search needs
 
-returns-2 : tie.Need-returns-2
-returns-2 c = search needs
-
 pub main-spec : {M : Type 1} → statement M
-main-spec =
-    tie.close
-    (tie.spec
-    large-buffer-requires
-    large-buffer-requires-2
-    slice-aggregate-memory
-    slice-aggregate-windows
-    slice-aggregate-buffer
-    slice-aggregate-out
-    run-requires
-    not-whole-requires
-    returns
-    returns-2)
+main-spec = tie.close (tie.spec fill-requires replay-trace-requires returns)

@@ -2,16 +2,16 @@ use mathlib.Core.Path.{sym, ap, _∙_}
 use Prim.Native.Nat.{_*_, _^_}
 use native.Mathlib.Omega.{arith}
 use lib.ListN.{length}
-use Rattle.replay.specs.Flow.{room}
+use Rattle.flow.specs.Flow.{room}
 use Rattle.replay.proofs.Whole.{Runs, runs-begin, runs-turn}
 use Rattle.replay.proofs.run.Statement.{statement}
 use Rattle.replay.proofs.run.Tie as tie
 
 abbrev Inv-loop : tie.InvT-loop
-Inv-loop memory₀ windows₀ buffer₀ out₀ flow₀ turns₀ memory windows buffer out flow turns = Runs memory₀ windows₀ memory windows buffer out flow turns
+Inv-loop memory₀ windows₀ buffer₀ leading padded out₀ flow₀ turns₀ memory windows buffer out flow turns = Runs memory₀ windows₀ memory windows buffer out flow turns
 
 abbrev μ-loop : tie.MeasureT-loop
-μ-loop memory₀ windows₀ buffer₀ out₀ flow₀ turns₀ memory windows buffer out flow turns = turns
+μ-loop memory₀ windows₀ buffer₀ leading padded out₀ flow₀ turns₀ memory windows buffer out flow turns = turns
 
 begin-requires : tie.Need-begin-requires Inv-loop μ-loop
 begin-requires c κs = c .before .before .before .before .before .pre .3
@@ -24,7 +24,7 @@ loop-holds c =
 flow-on-requires : tie.Need-flow-on-requires Inv-loop μ-loop
 flow-on-requires c κs =
     let h = c .before .before .before .before .before .before .loop .inv in
-    (h .fits, omega (arith, h .windows, h .wide), h .space, omega (arith, h .small, c .before .before .before .before .before .loop-test .taken))
+    (h .fits, omega (arith, h .windows, h .wide), h .space, omega (arith, h .small, c .before .before .before .before .before .loop-test .taken), c .before .before .before .before .before .before .before .before .before .before .before .before .before .before .before .pre .4)
 
 sub-turns : tie.Need-sub-turns Inv-loop μ-loop
 sub-turns c = omega (arith, c .before .before .before .before .before .before .before .before .before .before .before .before .before .before .loop-test .taken)
@@ -35,7 +35,7 @@ loop-less c = omega (arith, c .before .before .before .before .before .before .b
 loop-again : tie.Need-loop-again Inv-loop μ-loop
 loop-again c =
     let t = c .before .before .before .before .before .before .before .before .flow-on in
-    runs-turn (c .before .before .before .before .before .before .before .before .before .before .before .before .before .before .before .loop .inv) (t .ensures) (omega (arith, c .before .before .before .before .before .before .before .before .before .before .before .before .before .before .loop-test .taken)) (t .kept .1 .0) (t .kept .1 .1 .0) (t .kept .1 .1 .1 .1 .0)
+    runs-turn (c .before .before .before .before .before .before .before .before .before .before .before .before .before .before .before .loop .inv) (t .ensures) (omega (arith, c .before .before .before .before .before .before .before .before .before .before .before .before .before .before .loop-test .taken)) (t .kept .1 .0) (t .kept .1 .1 .0) (t .kept .1 .1 .1 .1 .1 .1 .0)
 
 same-length : tie.Need-same-length Inv-loop μ-loop
 same-length c = c .before .loop .inv .memory

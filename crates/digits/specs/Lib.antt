@@ -1,0 +1,4 @@
+pub mod Claims
+pub mod Decimal
+pub mod Puts
+pub mod Tables

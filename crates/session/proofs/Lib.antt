@@ -1,0 +1,9 @@
+pub mod Parts
+pub mod Following
+pub mod Midst
+pub mod Passing
+pub mod RecordTurns
+pub mod Records
+pub mod StepLines
+pub mod Turns
+pub mod Unique

@@ -1,0 +1,75 @@
+// What a replay holds between two lines, beside the memory and the windows that the program lends; specs/ says what each
+// record of a trace does to it and prints.
+pub mod bad;
+pub mod ready;
+
+use kit::settings::Settings;
+use listing::line::Line;
+use monitor::monitor::Monitor;
+use state::engine::Engine;
+use state::engine::fresh;
+ghost use mathlib.Core.Path.{_≡_};
+ghost use Rattle.session.specs.Effect.{startOf, underWay};
+
+// Reading records, in the midst of an ST, or over after a bad line.
+pub enum Mode {
+    Records,
+    Steps { left: u32, taken: u32 },
+    Over,
+}
+
+// `sequence` is the last good record's, and `windows` the number of sick windows so far.
+pub struct Session {
+    pub engine: Engine,
+    pub monitor: Monitor,
+    pub sequence: u32,
+    pub windows: u32,
+    pub mode: Mode,
+}
+
+// The session after a line, and the line.
+pub struct Effect {
+    pub session: Session,
+    pub line: Line,
+}
+
+// The session after some turns, the place of the next record, and the place past the bytes that were put.
+pub struct Passed {
+    pub session: Session,
+    pub at: usize,
+    pub put: usize,
+}
+
+// No record is longer; no line is longer than this room.
+pub const LONGEST_RECORD: usize = 1036;
+
+pub const LINE_ROOM: usize = 64;
+
+// Whether an ST is under way.
+pub fn under_way(mode: Mode) -> bool
+    ensures { λ r. ⌜ r ≡ underWay mode ⌝ }
+{
+    match mode {
+        Mode::Steps { left: _, taken: _ } => true,
+        Mode::Over => false,
+        Mode::Records => false,
+    }
+}
+
+// No windows, a fresh engine and monitor; without a CF record the width is 4 and the beats are 16.
+pub fn start() -> Session
+    ensures { λ r. ⌜ r ≡ startOf ⌝ }
+{
+    let engine = fresh(Settings {
+        width: 4,
+        beats: 16,
+    });
+    let monitor = Monitor::fresh();
+    Session {
+        engine,
+        monitor,
+        sequence: 0,
+        windows: 0,
+        mode: Mode::Records,
+    }
+}

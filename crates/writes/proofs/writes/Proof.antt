@@ -1,0 +1,171 @@
+use mathlib.Core.Path.{_≡_, sym, ap, _∙_}
+use Prim.Native.Nat.{ℕ, _+_, _-_}
+use native.Mathlib.Omega.{arith}
+use lib.ListN.{length}
+use denote.Ref.{now}
+use borrow.Author.Needs.{needs}
+use borrow.Author.Tests.{not-false}
+use Rattle.registers.specs.Write.{writeSeen}
+use Rattle.record.specs.declared.reading.Body.the-variants.{Write}
+use Rattle.listing.proofs.Lines.{line-most}
+use Rattle.digits.proofs.Puts.{puts-length}
+use Rattle.session.specs.Effect.{underWay, withEngine}
+use Rattle.session.proofs.Following.{on-room, on-whole}
+use Rattle.session.proofs.Midst.{Midst, midst-begin, midst-inside, midst-turn, midst-last}
+use Rattle.writes.proofs.Writing.{writtenOf, as-written, write-order}
+use Rattle.writes.proofs.writes.Statement.{statement}
+use Rattle.writes.proofs.writes.Tie as tie
+
+-- the last good sequence number and the record's place are no variables of the loop, since each turn sets them anew
+abbrev Inv-loop : tie.InvT-loop
+Inv-loop session sequence₀ offset₀ value₀ base input at₀ next₀ ended leading padded out₀ put₀ engine₀ sequence₁ offset₁ value₁ next₁ put₁ out engine sequence offset value next put =
+    (before : ℕ) × (at : ℕ) × Midst base input ended session at₀ out₀ put₀ (withEngine session before engine) sequence (Write offset value) at next out put
+
+abbrev μ-loop : tie.MeasureT-loop
+μ-loop session sequence₀ offset₀ value₀ base input at₀ next₀ ended leading padded out₀ put₀ engine₀ sequence₁ offset₁ value₁ next₁ put₁ out engine sequence offset value next put = length input - next
+
+loop-holds : tie.Need-loop-holds Inv-loop μ-loop
+loop-holds c =
+    let a = c .before .before .before .args in
+    (a .session .sequence, a .at, midst-begin (c .before .before .before .pre .0) (c .before .before .before .pre .1 .1 .1))
+
+write-requires : tie.Need-write-requires Inv-loop μ-loop
+write-requires c κs = search needs
+
+write-line-requires : tie.Need-write-line-requires Inv-loop μ-loop
+write-line-requires c κs = search needs
+
+put-line-requires : tie.Need-put-line-requires Inv-loop μ-loop
+put-line-requires c κs = let k = c .before .before .before .before .loop .inv .2 in (c .before .before .before .before .before .before .before .before .pre .1 .1 .0, omega (arith, k .free, k .same))
+
+goes-on-requires : tie.Need-goes-on-requires Inv-loop μ-loop
+goes-on-requires c κs =
+    let a = c .before .before .before .before .before .before .before .before .before .before .before .args in
+    let v = c .before .before .before .before .before .before .before .loop in
+    let k = v .inv .2 in
+    let s = withEngine (a .session) (v .inv .0) (v .engine) in
+    let line = c .before .before .before .before .write-line .result in
+    let most = line-most line (omega (arith, c .before .before .before .before .write-line .ok)) (omega (arith, c .before .before .before .before .write-line .ok)) (omega (arith, c .before .before .before .before .write-line .ok)) in
+    (midst-inside k .1, omega arith, omega (arith, c .before .before .put-line .ensures .past, most, k .free, k .same, puts-length (c .before .before .put-line .ensures)))
+
+add-load : tie.Need-add-load Inv-loop μ-loop
+add-load c =
+    let a = c .before .before .before .before .before .before .before .before .before .before .before .before .before .args in
+    let v = c .before .before .before .before .before .before .before .before .before .loop in
+    let g = sym (c .before .goes-on .ensures) ∙ not-false _ (c .if1 .left) in
+    omega (arith, on-whole (now (a .input)) (v .next) (a .ended) (c .before .before .before .before .put-line .result) _ _ 12 (v .sequence) g, c .before .before .before .before .before .before .before .before .before .before .before .before .before .pre .1 .0)
+
+load-requires : tie.Need-load-requires Inv-loop μ-loop
+load-requires c κs =
+    let a = c .before .before .before .before .before .before .before .before .before .before .before .before .before .args in
+    let v = c .before .before .before .before .before .before .before .before .before .loop in
+    let g = sym (c .before .goes-on .ensures) ∙ not-false _ (c .if1 .left) in
+    omega (arith, on-whole (now (a .input)) (v .next) (a .ended) (c .before .before .before .before .put-line .result) _ _ 12 (v .sequence) g)
+
+add-load-half : tie.Need-add-load-half Inv-loop μ-loop
+add-load-half c =
+    let a = c .before .before .before .before .before .before .before .before .before .before .before .before .before .before .args in
+    let v = c .before .before .before .before .before .before .before .before .before .before .loop in
+    let g = sym (c .before .before .goes-on .ensures) ∙ not-false _ (c .before .if1 .left) in
+    omega (arith, on-whole (now (a .input)) (v .next) (a .ended) (c .before .before .before .before .before .put-line .result) _ _ 12 (v .sequence) g, c .before .before .before .before .before .before .before .before .before .before .before .before .before .before .pre .1 .0)
+
+load-half-requires : tie.Need-load-half-requires Inv-loop μ-loop
+load-half-requires c κs =
+    let a = c .before .before .before .before .before .before .before .before .before .before .before .before .before .before .args in
+    let v = c .before .before .before .before .before .before .before .before .before .before .loop in
+    let g = sym (c .before .before .goes-on .ensures) ∙ not-false _ (c .before .if1 .left) in
+    omega (arith, on-whole (now (a .input)) (v .next) (a .ended) (c .before .before .before .before .before .put-line .result) _ _ 12 (v .sequence) g)
+
+cast-offset : tie.Need-cast-offset Inv-loop μ-loop
+cast-offset c = search needs
+
+add-load-2 : tie.Need-add-load-2 Inv-loop μ-loop
+add-load-2 c =
+    let a = c .before .before .before .before .before .before .before .before .before .before .before .before .before .before .before .args in
+    let v = c .before .before .before .before .before .before .before .before .before .before .before .loop in
+    let g = sym (c .before .before .before .goes-on .ensures) ∙ not-false _ (c .before .before .if1 .left) in
+    omega (arith, on-whole (now (a .input)) (v .next) (a .ended) (c .before .before .before .before .before .before .put-line .result) _ _ 12 (v .sequence) g, c .before .before .before .before .before .before .before .before .before .before .before .before .before .before .before .pre .1 .0)
+
+load-requires-2 : tie.Need-load-requires-2 Inv-loop μ-loop
+load-requires-2 c κs =
+    let a = c .before .before .before .before .before .before .before .before .before .before .before .before .before .before .before .args in
+    let v = c .before .before .before .before .before .before .before .before .before .before .before .loop in
+    let g = sym (c .before .before .before .goes-on .ensures) ∙ not-false _ (c .before .before .if1 .left) in
+    omega (arith, on-whole (now (a .input)) (v .next) (a .ended) (c .before .before .before .before .before .before .put-line .result) _ _ 12 (v .sequence) g)
+
+add-next : tie.Need-add-next Inv-loop μ-loop
+add-next c =
+    let a = c .before .before .before .before .before .before .before .before .before .before .before .before .before .before .before .before .args in
+    let v = c .before .before .before .before .before .before .before .before .before .before .before .before .loop in
+    let g = sym (c .before .before .before .before .goes-on .ensures) ∙ not-false _ (c .before .before .before .if1 .left) in
+    omega (arith, on-whole (now (a .input)) (v .next) (a .ended) (c .before .before .before .before .before .before .before .put-line .result) _ _ 12 (v .sequence) g, c .before .before .before .before .before .before .before .before .before .before .before .before .before .before .before .before .pre .1 .0)
+
+loop-less : tie.Need-loop-less Inv-loop μ-loop
+loop-less c =
+    let a = c .before .before .before .before .before .before .before .before .before .before .before .before .before .before .before .before .args in
+    let v = c .before .before .before .before .before .before .before .before .before .before .before .before .loop in
+    let g = sym (c .before .before .before .before .goes-on .ensures) ∙ not-false _ (c .before .before .before .if1 .left) in
+    omega (arith, on-whole (now (a .input)) (v .next) (a .ended) (c .before .before .before .before .before .before .before .put-line .result) _ _ 12 (v .sequence) g)
+
+loop-again : tie.Need-loop-again Inv-loop μ-loop
+loop-again c =
+    let a = c .before .before .before .before .before .before .before .before .before .before .before .before .before .before .before .before .args in
+    let v = c .before .before .before .before .before .before .before .before .before .before .before .before .loop in
+    let k = v .inv .2 in
+    let s = withEngine (a .session) (v .inv .0) (v .engine) in
+    let line = c .before .before .before .before .before .before .before .before .before .write-line .result in
+    let most = line-most line (omega (arith, c .before .before .before .before .before .before .before .before .before .write-line .ok)) (omega (arith, c .before .before .before .before .before .before .before .before .before .write-line .ok)) (omega (arith, c .before .before .before .before .before .before .before .before .before .write-line .ok)) in
+    let g = sym (c .before .before .before .before .goes-on .ensures) ∙ not-false _ (c .before .before .before .if1 .left) in
+    let after = withEngine (a .session) (v .sequence) (c .before .before .before .before .before .before .before .before .before .before .before .write .result .engine) in
+    let same = puts-length (c .before .before .before .before .before .before .before .put-line .ensures) ∙ k .same in (
+      v .sequence,
+      v .next,
+      record {
+        order = write-order (a .base) (now (a .input)) (v .next) (a .ended) (c .before .before .before .before .before .before .before .put-line .result) _ after (k .order .mode) g (c .before .before .load .ensures) (c .before .load-half .ensures) (c .load2 .ensures);
+        free = omega (arith, on-room (now (a .input)) (v .next) (a .ended) (c .before .before .before .before .before .before .before .put-line .result) _ _ 12 (v .sequence) g, same);
+        start = omega (arith, k .start, c .before .before .before .before .before .before .before .put-line .ensures .past);
+        same = same;
+        turning = midst-turn k (writtenOf s (v .sequence) (v .offset) (writeSeen (c .before .before .before .before .before .before .before .before .before .before .before .write .result)))
+            (as-written s (v .sequence) (v .offset) (v .value) (a .base + v .inv .1) (now (a .input)) (v .inv .1) (c .before .before .before .before .before .before .before .before .before .before .before .write .ensures))
+            (ap underWay (k .order .mode)) (c .before .before .before .before .before .before .before .before .before .write-line .ensures) (c .before .before .before .before .before .before .before .put-line .ensures) (omega (arith, c .before .before .before .before .before .before .before .put-line .ensures .past, most));
+      },
+    )
+
+same-length : tie.Need-same-length Inv-loop μ-loop
+same-length c = puts-length (c .before .before .before .before .before .put-line .ensures) ∙ c .before .before .before .before .before .before .before .before .before .before .loop .inv .2 .same
+
+returns : tie.Need-returns Inv-loop μ-loop
+returns c =
+    let a = c .before .before .before .before .before .before .before .before .before .before .before .before .before .before .args in
+    let v = c .before .before .before .before .before .before .before .before .before .before .loop in
+    let k = v .inv .2 in
+    let s = withEngine (a .session) (v .inv .0) (v .engine) in
+    let line = c .before .before .before .before .before .before .before .write-line .result in
+    let most = line-most line (omega (arith, c .before .before .before .before .before .before .before .write-line .ok)) (omega (arith, c .before .before .before .before .before .before .before .write-line .ok)) (omega (arith, c .before .before .before .before .before .before .before .write-line .ok)) in
+    midst-last k (writtenOf s (v .sequence) (v .offset) (writeSeen (c .before .before .before .before .before .before .before .before .before .write .result)))
+    (as-written s (v .sequence) (v .offset) (v .value) (a .base + v .inv .1) (now (a .input)) (v .inv .1) (c .before .before .before .before .before .before .before .before .before .write .ensures))
+    (ap underWay (k .order .mode)) (c .before .before .before .before .before .before .before .write-line .ensures) (c .before .before .before .before .before .put-line .ensures) (omega (arith, c .before .before .before .before .before .put-line .ensures .past, most))
+
+pub writes-spec : {M : Type 1} → statement M
+writes-spec =
+    tie.close
+    (tie.spec
+    Inv-loop
+    μ-loop
+    loop-holds
+    write-requires
+    write-line-requires
+    put-line-requires
+    goes-on-requires
+    add-load
+    load-requires
+    add-load-half
+    load-half-requires
+    cast-offset
+    add-load-2
+    load-requires-2
+    add-next
+    loop-less
+    loop-again
+    same-length
+    returns)

@@ -31,8 +31,8 @@ use Rattle.digits.proofs.Puts.{puts-length}
 use Rattle.session.specs.declared.Mode.{Mode}
 use Rattle.session.specs.declared.Mode.the-variants as modes
 use Rattle.session.specs.declared.Session.{Session}
-use Rattle.session.specs.Effect.{Lent, lend, withMode}
-use Rattle.session.specs.Stepping.{mostSteps, usedOf, stopsOf, acceptedOf, stopLineOf, eventLineOf, stoppedOf}
+use Rattle.session.specs.Effect.{lend, withMode}
+use Rattle.session.specs.Stepping.{mostSteps, usedOf, stopsOf, acceptedOf, stopLineOf, eventLineOf}
 use Rattle.session.specs.Pass.{lineRoom, TakesSteps}
 use Rattle.session.proofs.Passing.{Passing, passing-begin, passing-turn, takes-by}
 use Rattle.session.proofs.StepLines.{stepping, stop-turn, step-turn, accepted-on}

@@ -19,7 +19,8 @@ pub struct Clock {
 }
 
 impl Clock {
-    // Whether no field asks for answer 13; address and id take any number.
+    // Whether no field asks for answer 13; address and id take any number. One sum is one test: a field above its range
+    // adds to it, and no field takes away.
     pub fn in_range(self) -> bool
         ensures { λ r. ⌜ r ≡ inRange self ⌝ }
     {

@@ -59,6 +59,15 @@ module _ {windows : List Window} {r : AfterAdvance} where
   reaches-length (more {s = s} p busy) = advance-keeps (s .engine) (s .memory) windows .length ∙ reaches-length p
 
   -- a walk goes through where its steps lead
+  -- and keeps the settings, SA, DA and BTT
+  pub reaches-settings : {n : ℕ} {x : AfterAdvance} → Reaches windows r n x → x .engine .settings ≡ r .engine .settings
+  reaches-settings none = refl
+  reaches-settings (more {s = s} p busy) = advance-keeps (s .engine) (s .memory) windows .settings ∙ reaches-settings p
+
+  pub reaches-simple : {n : ℕ} {x : AfterAdvance} → Reaches windows r n x → x .engine .simple ≡ r .engine .simple
+  reaches-simple none = refl
+  reaches-simple (more {s = s} p busy) = advance-keeps (s .engine) (s .memory) windows .simple ∙ reaches-simple p
+
   pub reaches-walk : {n : ℕ} {x : AfterAdvance} → Reaches windows r n x → (k i : ℕ) → walkFrom (n + k) i r windows ≡ walkFrom k (i + n) x windows
   reaches-walk none k i =
       let e : 0 + k ≡ k = omega arith in

@@ -129,6 +129,9 @@ pub fn walk(engine: Engine, memory: &mut [u8], windows: &[u32], most: u32) -> Wa
     requires { ⌜ wellFormedOf engine ≡ true ⌝ }
     ensures { λ r. ⌜ walkSeen r (now (memory .exit)) ≡ walkFrom most 0 (begun engine (now (memory .entry))) (windowsOf (now (windows .entry))) ⌝ }
 {
+    // No step changes them: taken from here, they are not carried from step to step.
+    let settings = engine.settings;
+    let simple = engine.simple;
     let mut last = Advanced {
         event: Event::None,
         engine,
@@ -142,7 +145,12 @@ pub fn walk(engine: Engine, memory: &mut [u8], windows: &[u32], most: u32) -> Wa
         }
         let walked = stride(engine, memory, windows, most - steps);
         let event = walked.event;
-        let engine = walked.engine;
+        let after = walked.engine;
+        let engine = Engine {
+            settings,
+            simple,
+            ..after
+        };
         last = Advanced { event, engine };
         steps += walked.steps;
     }

@@ -9,7 +9,7 @@ use borrow.Author.Count.{below-more}
 use borrow.Author.Tests.{le-leb, lt-leb, leb-true, ltb-true, ltb-false}
 use native.Mathlib.Omega.{arith}
 use lib.ListN.{length, drop, length-append}
-use lib.Seq.{sets, sets-eq}
+use lib.Seq.{sets-eq}
 use lib.Dec.{leb, ltb}
 use Rattle.kit.specs.Choice.{both}
 use Rattle.kit.proofs.Choice.{decide, both-left, both-right, both-join}

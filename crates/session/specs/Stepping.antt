@@ -1,7 +1,6 @@
 -- RULES.md, "Trace and listing": the lines of ST: one a step, then stop.
 use Prim.Native.Nat.{ℕ, _+_, _-_, _*_, min}
-use mathlib.Core.Bool.{Bool, true, false, not}
-use mathlib.Core.List.{List}
+use mathlib.Core.Bool.{Bool, not}
 use lib.ListN.{length, take}
 use lib.Dec.{eqb, leb}
 use Rattle.kit.specs.Choice.{when, either}

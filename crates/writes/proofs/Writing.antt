@@ -4,7 +4,6 @@ use mathlib.Core.Bool.{Bool, true}
 use mathlib.Core.List.{List}
 use Prim.Native.Nat.{ℕ, _+_}
 use Rattle.kit.specs.Word.{wordAt, halfAt}
-use Rattle.state.specs.declared.engine.Engine.{Engine}
 use Rattle.registers.specs.Write as registers-written
 use Rattle.record.specs.declared.reading.Body.the-variants.{Write}
 use Rattle.record.specs.Mark.{letters}

@@ -1,22 +1,16 @@
-use mathlib.Core.Path.{_≡_, refl, sym, ap, subst, _∙_}
-use mathlib.Core.Bool.{Bool, true, false}
-use mathlib.Core.List.{List}
-use Prim.Native.Nat.{ℕ, _+_, _-_}
+use mathlib.Core.Path.{refl, sym, ap, _∙_}
+use Prim.Native.Nat.{_+_, _-_, _≤_}
 use native.Mathlib.Omega.{arith}
 use lib.ListN.{length}
 use denote.Ref.{now}
 use borrow.Author.Needs.{needs}
-use borrow.Author.Tests.{not-false, not-true}
+use borrow.Author.Tests.{not-false}
 use Rattle.monitor.specs.Monitor.{Seen, seen}
-use Rattle.record.specs.Mark.{letters}
-use Rattle.listing.proofs.Lines.{line-some, line-most}
+use Rattle.listing.proofs.Lines.{line-most}
 use Rattle.digits.proofs.Puts.{puts-length}
-use Rattle.session.specs.declared.Mode.the-variants as modes
 use Rattle.session.specs.Effect.{badOf, clockLineOf, underWay}
-use Rattle.session.specs.Pass.{InOrder}
-use Rattle.session.proofs.Following.{on-room, on-whole, clock-in-order}
-use Rattle.session.proofs.Midst.{Turning, Midst, midst-begin, midst-inside, midst-turn, midst-last}
-use Rattle.session.proofs.Passing.{takes-by}
+use Rattle.session.proofs.Following.{on-room, on-whole}
+use Rattle.session.proofs.Midst.{Midst, midst-begin, midst-inside, midst-turn, midst-last}
 use Rattle.watch.specs.Judged.{clockBody}
 use Rattle.watch.proofs.Clocking.{clocking, clockedOf, as-refused, as-taken, clock-order}
 use Rattle.watch.proofs.clocks.Statement.{statement}
@@ -78,47 +72,30 @@ goes-on-requires c κs =
     let most = line-most line (omega (arith, c .before .before .before .before .clock-line .ok)) (omega (arith, c .before .before .before .before .clock-line .ok)) (omega (arith, c .before .before .before .before .clock-line .ok)) in
     (midst-inside (v .inv) .1, omega arith, omega (arith, c .before .before .put-line2 .ensures .past, most, v .inv .free, v .inv .same, puts-length (c .before .before .put-line2 .ensures)))
 
-add-load : tie.Need-add-load Inv-loop μ-loop
-add-load c =
+-- the loop goes on: the next record is whole
+whole : (c : tie.Else2 Inv-loop μ-loop) → c .before .before .before .before .before .before .before .before .before .before .before .before .loop .next + 22 ≤ length (now (c .before .before .before .before .before .before .before .before .before .before .before .before .before .before .before .before .before .args .input))
+whole c =
     let a = c .before .before .before .before .before .before .before .before .before .before .before .before .before .before .before .before .before .args in
     let v = c .before .before .before .before .before .before .before .before .before .before .before .before .loop in
-    let g = sym (c .before .goes-on .ensures) ∙ not-false _ (c .if2 .left) in
-    omega (arith, on-whole (now (a .input)) (v .next) (a .ended) (c .before .before .before .before .put-line2 .result) _ _ 22 (v .sequence) g, c .before .before .before .before .before .before .before .before .before .before .before .before .before .before .before .before .before .pre .1 .0)
+    on-whole (now (a .input)) (v .next) (a .ended) (c .before .before .before .before .put-line2 .result) _ _ 22 (v .sequence) (sym (c .before .goes-on .ensures) ∙ not-false _ (c .if2 .left))
+
+add-load : tie.Need-add-load Inv-loop μ-loop
+add-load c = omega (arith, whole (c), c .before .before .before .before .before .before .before .before .before .before .before .before .before .before .before .before .before .pre .1 .0)
 
 load-requires : tie.Need-load-requires Inv-loop μ-loop
-load-requires c κs =
-    let a = c .before .before .before .before .before .before .before .before .before .before .before .before .before .before .before .before .before .args in
-    let v = c .before .before .before .before .before .before .before .before .before .before .before .before .loop in
-    let g = sym (c .before .goes-on .ensures) ∙ not-false _ (c .if2 .left) in
-    omega (arith, on-whole (now (a .input)) (v .next) (a .ended) (c .before .before .before .before .put-line2 .result) _ _ 22 (v .sequence) g)
+load-requires c κs = omega (arith, whole (c))
 
 add-byte : tie.Need-add-byte Inv-loop μ-loop
-add-byte c =
-    let a = c .before .before .before .before .before .before .before .before .before .before .before .before .before .before .before .before .before .before .args in
-    let v = c .before .before .before .before .before .before .before .before .before .before .before .before .before .loop in
-    let g = sym (c .before .before .goes-on .ensures) ∙ not-false _ (c .before .if2 .left) in
-    omega (arith, on-whole (now (a .input)) (v .next) (a .ended) (c .before .before .before .before .before .put-line2 .result) _ _ 22 (v .sequence) g, c .before .before .before .before .before .before .before .before .before .before .before .before .before .before .before .before .before .before .pre .1 .0)
+add-byte c = omega (arith, whole (c .before), c .before .before .before .before .before .before .before .before .before .before .before .before .before .before .before .before .before .before .pre .1 .0)
 
 byte-requires : tie.Need-byte-requires Inv-loop μ-loop
-byte-requires c κs =
-    let a = c .before .before .before .before .before .before .before .before .before .before .before .before .before .before .before .before .before .before .args in
-    let v = c .before .before .before .before .before .before .before .before .before .before .before .before .before .loop in
-    let g = sym (c .before .before .goes-on .ensures) ∙ not-false _ (c .before .if2 .left) in
-    omega (arith, on-whole (now (a .input)) (v .next) (a .ended) (c .before .before .before .before .before .put-line2 .result) _ _ 22 (v .sequence) g)
+byte-requires c κs = omega (arith, whole (c .before))
 
 fields-requires : tie.Need-fields-requires Inv-loop μ-loop
-fields-requires c κs =
-    let a = c .before .before .before .before .before .before .before .before .before .before .before .before .before .before .before .before .before .before .before .args in
-    let v = c .before .before .before .before .before .before .before .before .before .before .before .before .before .before .loop in
-    let g = sym (c .before .before .before .goes-on .ensures) ∙ not-false _ (c .before .before .if2 .left) in
-    on-whole (now (a .input)) (v .next) (a .ended) (c .before .before .before .before .before .before .put-line2 .result) _ _ 22 (v .sequence) g
+fields-requires c κs = whole (c .before .before)
 
 add-next : tie.Need-add-next Inv-loop μ-loop
-add-next c =
-    let a = c .before .before .before .before .before .before .before .before .before .before .before .before .before .before .before .before .before .before .before .before .args in
-    let v = c .before .before .before .before .before .before .before .before .before .before .before .before .before .before .before .loop in
-    let g = sym (c .before .before .before .before .goes-on .ensures) ∙ not-false _ (c .before .before .before .if2 .left) in
-    omega (arith, on-whole (now (a .input)) (v .next) (a .ended) (c .before .before .before .before .before .before .before .put-line2 .result) _ _ 22 (v .sequence) g, c .before .before .before .before .before .before .before .before .before .before .before .before .before .before .before .before .before .before .before .before .pre .1 .0)
+add-next c = omega (arith, whole (c .before .before .before), c .before .before .before .before .before .before .before .before .before .before .before .before .before .before .before .before .before .before .before .before .pre .1 .0)
 
 loop-less : tie.Need-loop-less Inv-loop μ-loop
 loop-less c = let here = midst-inside (c .before .before .before .before .before .before .before .before .before .before .before .before .before .before .before .loop .inv) in omega (arith, here .0, here .1)

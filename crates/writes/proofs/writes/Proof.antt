@@ -1,5 +1,5 @@
-use mathlib.Core.Path.{_≡_, sym, ap, _∙_}
-use Prim.Native.Nat.{ℕ, _+_, _-_}
+use mathlib.Core.Path.{sym, ap, _∙_}
+use Prim.Native.Nat.{ℕ, _+_, _-_, _≤_}
 use native.Mathlib.Omega.{arith}
 use lib.ListN.{length}
 use denote.Ref.{now}
@@ -48,64 +48,39 @@ goes-on-requires c κs =
     let most = line-most line (omega (arith, c .before .before .before .before .write-line .ok)) (omega (arith, c .before .before .before .before .write-line .ok)) (omega (arith, c .before .before .before .before .write-line .ok)) in
     (midst-inside k .1, omega arith, omega (arith, c .before .before .put-line .ensures .past, most, k .free, k .same, puts-length (c .before .before .put-line .ensures)))
 
-add-load : tie.Need-add-load Inv-loop μ-loop
-add-load c =
+-- the loop goes on: the next record is whole
+whole : (c : tie.Else1 Inv-loop μ-loop) → c .before .before .before .before .before .before .before .before .before .loop .next + 12 ≤ length (now (c .before .before .before .before .before .before .before .before .before .before .before .before .before .args .input))
+whole c =
     let a = c .before .before .before .before .before .before .before .before .before .before .before .before .before .args in
     let v = c .before .before .before .before .before .before .before .before .before .loop in
-    let g = sym (c .before .goes-on .ensures) ∙ not-false _ (c .if1 .left) in
-    omega (arith, on-whole (now (a .input)) (v .next) (a .ended) (c .before .before .before .before .put-line .result) _ _ 12 (v .sequence) g, c .before .before .before .before .before .before .before .before .before .before .before .before .before .pre .1 .0)
+    on-whole (now (a .input)) (v .next) (a .ended) (c .before .before .before .before .put-line .result) _ _ 12 (v .sequence) (sym (c .before .goes-on .ensures) ∙ not-false _ (c .if1 .left))
+
+add-load : tie.Need-add-load Inv-loop μ-loop
+add-load c = omega (arith, whole (c), c .before .before .before .before .before .before .before .before .before .before .before .before .before .pre .1 .0)
 
 load-requires : tie.Need-load-requires Inv-loop μ-loop
-load-requires c κs =
-    let a = c .before .before .before .before .before .before .before .before .before .before .before .before .before .args in
-    let v = c .before .before .before .before .before .before .before .before .before .loop in
-    let g = sym (c .before .goes-on .ensures) ∙ not-false _ (c .if1 .left) in
-    omega (arith, on-whole (now (a .input)) (v .next) (a .ended) (c .before .before .before .before .put-line .result) _ _ 12 (v .sequence) g)
+load-requires c κs = omega (arith, whole (c))
 
 add-load-half : tie.Need-add-load-half Inv-loop μ-loop
-add-load-half c =
-    let a = c .before .before .before .before .before .before .before .before .before .before .before .before .before .before .args in
-    let v = c .before .before .before .before .before .before .before .before .before .before .loop in
-    let g = sym (c .before .before .goes-on .ensures) ∙ not-false _ (c .before .if1 .left) in
-    omega (arith, on-whole (now (a .input)) (v .next) (a .ended) (c .before .before .before .before .before .put-line .result) _ _ 12 (v .sequence) g, c .before .before .before .before .before .before .before .before .before .before .before .before .before .before .pre .1 .0)
+add-load-half c = omega (arith, whole (c .before), c .before .before .before .before .before .before .before .before .before .before .before .before .before .before .pre .1 .0)
 
 load-half-requires : tie.Need-load-half-requires Inv-loop μ-loop
-load-half-requires c κs =
-    let a = c .before .before .before .before .before .before .before .before .before .before .before .before .before .before .args in
-    let v = c .before .before .before .before .before .before .before .before .before .before .loop in
-    let g = sym (c .before .before .goes-on .ensures) ∙ not-false _ (c .before .if1 .left) in
-    omega (arith, on-whole (now (a .input)) (v .next) (a .ended) (c .before .before .before .before .before .put-line .result) _ _ 12 (v .sequence) g)
+load-half-requires c κs = omega (arith, whole (c .before))
 
 cast-offset : tie.Need-cast-offset Inv-loop μ-loop
 cast-offset c = search needs
 
 add-load-2 : tie.Need-add-load-2 Inv-loop μ-loop
-add-load-2 c =
-    let a = c .before .before .before .before .before .before .before .before .before .before .before .before .before .before .before .args in
-    let v = c .before .before .before .before .before .before .before .before .before .before .before .loop in
-    let g = sym (c .before .before .before .goes-on .ensures) ∙ not-false _ (c .before .before .if1 .left) in
-    omega (arith, on-whole (now (a .input)) (v .next) (a .ended) (c .before .before .before .before .before .before .put-line .result) _ _ 12 (v .sequence) g, c .before .before .before .before .before .before .before .before .before .before .before .before .before .before .before .pre .1 .0)
+add-load-2 c = omega (arith, whole (c .before .before), c .before .before .before .before .before .before .before .before .before .before .before .before .before .before .before .pre .1 .0)
 
 load-requires-2 : tie.Need-load-requires-2 Inv-loop μ-loop
-load-requires-2 c κs =
-    let a = c .before .before .before .before .before .before .before .before .before .before .before .before .before .before .before .args in
-    let v = c .before .before .before .before .before .before .before .before .before .before .before .loop in
-    let g = sym (c .before .before .before .goes-on .ensures) ∙ not-false _ (c .before .before .if1 .left) in
-    omega (arith, on-whole (now (a .input)) (v .next) (a .ended) (c .before .before .before .before .before .before .put-line .result) _ _ 12 (v .sequence) g)
+load-requires-2 c κs = omega (arith, whole (c .before .before))
 
 add-next : tie.Need-add-next Inv-loop μ-loop
-add-next c =
-    let a = c .before .before .before .before .before .before .before .before .before .before .before .before .before .before .before .before .args in
-    let v = c .before .before .before .before .before .before .before .before .before .before .before .before .loop in
-    let g = sym (c .before .before .before .before .goes-on .ensures) ∙ not-false _ (c .before .before .before .if1 .left) in
-    omega (arith, on-whole (now (a .input)) (v .next) (a .ended) (c .before .before .before .before .before .before .before .put-line .result) _ _ 12 (v .sequence) g, c .before .before .before .before .before .before .before .before .before .before .before .before .before .before .before .before .pre .1 .0)
+add-next c = omega (arith, whole (c .before .before .before), c .before .before .before .before .before .before .before .before .before .before .before .before .before .before .before .before .pre .1 .0)
 
 loop-less : tie.Need-loop-less Inv-loop μ-loop
-loop-less c =
-    let a = c .before .before .before .before .before .before .before .before .before .before .before .before .before .before .before .before .args in
-    let v = c .before .before .before .before .before .before .before .before .before .before .before .before .loop in
-    let g = sym (c .before .before .before .before .goes-on .ensures) ∙ not-false _ (c .before .before .before .if1 .left) in
-    omega (arith, on-whole (now (a .input)) (v .next) (a .ended) (c .before .before .before .before .before .before .before .put-line .result) _ _ 12 (v .sequence) g)
+loop-less c = omega (arith, whole (c .before .before .before))
 
 loop-again : tie.Need-loop-again Inv-loop μ-loop
 loop-again c =

@@ -3,18 +3,15 @@ use mathlib.Core.Logic.{⊎-elim}
 use mathlib.Core.List.{List}
 use Prim.Native.Nat.{ℕ, _+_}
 use native.Mathlib.Omega.{arith}
-use lib.ListN.{length}
-use lib.Dec.{eqb}
 use borrow.Author.Needs.{needs}
-use borrow.Author.Tests.{le-leb, lt-leb}
+use borrow.Author.Tests.{le-leb}
 use denote.Ref.{now}
-use Rattle.kit.proofs.Choice.{yes, no}
+use Rattle.kit.proofs.Choice.{yes}
 use Rattle.digits.proofs.Puts.{puts-length}
 use Rattle.record.specs.declared.reading.Body.{Body}
-use Rattle.record.specs.declared.reading.Reading.{Reading}
 use Rattle.session.specs.declared.Effect.{Effect}
-use Rattle.session.specs.Effect.{Lent, lend, After, after}
-use Rattle.session.specs.Turn.{DataFits, turnAs, applyOf, recordBy}
+use Rattle.session.specs.Effect.{lend, After, after}
+use Rattle.session.specs.Turn.{DataFits, applyOf, recordBy}
 use Rattle.session.specs.Pass.{InOrder}
 use Rattle.session.proofs.Records.{data-fits}
 use Rattle.session.proofs.Turns.{SameLengths, apply-lengths}

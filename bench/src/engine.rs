@@ -1,6 +1,6 @@
 // The engine: `belikumba_run` and `belikumba_step` of the C library beside the independent program's engine.
 
-use crate::race::{print_heading, print_row, race};
+use crate::race::{print_heading, print_row, race, wanted};
 use independent::engine::Engine;
 use independent::memory::{Window, LONGEST};
 use shared::interface as library;
@@ -221,6 +221,9 @@ fn work<S: Side>(side: S, how: How, job: &Job) -> impl Fn(&mut Lent) {
 }
 
 fn print_race(what: &str, job: &Job, how: How, lent: &mut Lent) {
+    if !wanted(what) {
+        return;
+    }
     let steps = compare(job, how, lent) * job.times;
     print_row(what, &race(steps, lent, work(Proved, how, job), work(Plain, how, job)));
 }

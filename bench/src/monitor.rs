@@ -1,6 +1,6 @@
 // The monitor: `belikumba_bus_clock` of the C library beside the independent program's monitor.
 
-use crate::race::{print_heading, print_row, race};
+use crate::race::{print_heading, print_row, race, wanted};
 use independent::monitor::Monitor;
 use shared::clocks::{GOOD_CACHE, OUT_OF_RESET, READY, VALID};
 use shared::interface::{belikumba_bus_clock, Clock, Clocked, MONITOR_WORDS};
@@ -134,10 +134,14 @@ fn watch_plain(clocks: &mut Clocks) {
 pub fn bench() {
     print_heading("bus clock", "nanoseconds a clock");
     for (name, spoiled) in [("all legal", false), ("some not legal", true)] {
+        let what = format!("100,000 clocks, {name}");
+        if !wanted(&what) {
+            continue;
+        }
         let mut clocks = clocks(spoiled);
         let flagged = compare(&clocks);
         assert_eq!(flagged > 0, spoiled, "clocks, {name}: a flag was up after {flagged} of them");
         let times = race(CLOCKS as u64, &mut clocks, watch_proved, watch_plain);
-        print_row(&format!("100,000 clocks, {name}"), &times);
+        print_row(&what, &times);
     }
 }

@@ -1,6 +1,6 @@
 // The cutter: `belikumba_plan` of the C library beside the independent program's.
 
-use crate::race::{print_heading, print_row, race};
+use crate::race::{print_heading, print_row, race, wanted};
 use independent::cut::{plan_bytes, LONGEST};
 use shared::interface::{belikumba_plan, Planned};
 use shared::random::Random;
@@ -70,6 +70,10 @@ pub fn bench() {
         // A burst takes 8 bytes here and moves many more, so the longest transfer's length is room enough.
         let mut places = vec![0; transfers.iter().map(|t| t.count as usize).max().unwrap_or(0)];
         for (most, width, beats) in [("64-byte", 4, 16), ("4,096-byte", 128, 256)] {
+            let what = format!("{size}, {most} bursts");
+            if !wanted(&what) {
+                continue;
+            }
             let bursts = compare(width, beats, &transfers, &mut places);
             let work = |planner: Planner| {
                 let transfers = &transfers;
@@ -78,7 +82,7 @@ pub fn bench() {
                 }
             };
             let times = race(bursts, &mut places[..], work(proved), work(plain));
-            print_row(&format!("{size}, {most} bursts"), &times);
+            print_row(&what, &times);
         }
     }
 }

@@ -12,6 +12,13 @@ const FEWEST_ROUNDS: u32 = 5;
 /// What a round should take at least, so reading the clock does not show, and a quiet round is likely.
 const ROUND: Duration = Duration::from_micros(300);
 
+/// Whether a row is asked for: all are, unless words follow the program's name; then those that have one of them. A profile
+/// wants one row alone.
+pub fn wanted(what: &str) -> bool {
+    let mut words = std::env::args().skip(1).peekable();
+    words.peek().is_none() || words.any(|word| what.contains(&word))
+}
+
 /// Nanoseconds for one unit of work.
 pub struct Times {
     pub proved: f64,

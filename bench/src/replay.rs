@@ -1,6 +1,6 @@
 // The whole program: target/bin/replay beside the independent one, as processes on the same traces.
 
-use crate::race::{print_heading, print_row, Times};
+use crate::race::{print_heading, print_row, wanted, Times};
 use std::fs::File;
 use std::path::Path;
 use std::process::{Command, Stdio};
@@ -35,6 +35,10 @@ pub fn bench(folder: &Path) {
     let plain = folder.join("cargo/release/independent");
     print_heading("replay", "nanoseconds a record");
     for kind in ["mixed", "bus", "copies", "chains"] {
+        let what = format!("200,000 records, {kind}");
+        if !wanted(&what) {
+            continue;
+        }
         let trace = folder.join(format!("bench/{kind}.trace"));
         assert!(listing(&proved, &trace) == listing(&plain, &trace), "{kind}: two listings");
         let mut times = Times { proved: f64::MAX, plain: f64::MAX };
@@ -45,6 +49,6 @@ pub fn bench(folder: &Path) {
             times.plain = times.plain.min(time(&plain, &trace) / RECORDS);
             rounds += 1;
         }
-        print_row(&format!("200,000 records, {kind}"), &times);
+        print_row(&what, &times);
     }
 }

@@ -1,4 +1,5 @@
 // What a replay keeps from one turn to the next, and what a read and a pass make of it. Nothing here calls the system.
+use session::LONGEST_RECORD;
 use session::Mode;
 use session::Passed;
 use session::Session;
@@ -19,9 +20,6 @@ pub struct Flow {
     pub over: bool,
 }
 
-// No record is longer: with as many bytes pending none is cut off by their end.
-const LONGEST_RECORD: usize = 1036;
-
 // Before anything is read; `sent` says that the header was taken.
 pub fn opened(sent: bool) -> Flow
     ensures { λ r. ⌜ r ≡ openedOf sent ⌝ }
@@ -37,7 +35,8 @@ pub fn opened(sent: bool) -> Flow
     }
 }
 
-// Whether to read: the trace goes on, and a record may be cut off by the end of the pending bytes.
+// Whether to read: the trace goes on, and a record may be cut off by the end of the pending bytes. With as many bytes as the
+// longest record has, none is.
 pub fn wants(flow: Flow) -> bool
     requires { ⌜ flow .at ≤ flow .filled ⌝ }
     ensures { λ r. ⌜ r ≡ wantsOf flow ⌝ }

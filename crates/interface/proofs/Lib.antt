@@ -1,4 +1,5 @@
 pub mod CallResults
+pub mod Judges
 pub mod ClockResults
 pub mod MovedWords
 pub mod Claims

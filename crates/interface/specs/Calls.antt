@@ -1,19 +1,23 @@
 -- include/belikumba.h, "Engine": each call over an engine's words is the call on the engine that they hold.
-use Prim.Native.Nat.{ℕ}
+use Prim.Native.Nat.{ℕ, _/_}
 use mathlib.Core.List.{List}
+use lib.ListN.{length}
 use lib.Dec.{eqb}
 use Rattle.kit.specs.Choice.{when}
 use Rattle.kit.specs.Settings.{legalOf}
+use Rattle.memory.specs.Windows.{windowsOf}
 use Rattle.state.specs.declared.engine.Engine.{Engine}
 use Rattle.state.specs.State.{wellFormedOf, interruptLineOf}
 use Rattle.reads.specs.Read.{Value, gives, noValue, readOf}
 use Rattle.registers.specs.Write.{AfterWrite, writeOf}
 use Rattle.steps.specs.declared.event.Event.{Event}
 use Rattle.steps.specs.Report.{reportOf}
-use Rattle.runs.specs.Run.{AfterStep, stepOf, AfterRun, runOf}
+use Rattle.steps.specs.Step.{begun}
+use Rattle.runs.specs.Run.{refusalOf, AfterWalk, afterSteps, walkFrom, AfterStep, stepOf, AfterRun, runOf}
 use Rattle.interface.specs.declared.accesses.ValueForC.{ValueForC}
 use Rattle.interface.specs.declared.stepping.SteppedForC.{SteppedForC}
 use Rattle.interface.specs.declared.stepping.RanForC.{RanForC}
+use Rattle.interface.specs.declared.stepping.WalkedWords.{WalkedWords}
 use Rattle.words.specs.EngineWords.{truth, wordsOf, engineOf}
 
 abbrev pub valueSeen : ValueForC → Value
@@ -49,6 +53,26 @@ wordsAfterWrite r w = wordsSeen (r .answer) (wordsAfter (r .answer) (r .engine) 
 
 abbrev pub writeWordsOf : List ℕ → ℕ → ℕ → WordsAfterWrite
 writeWordsOf w offset value = wordsAfterWrite (writeOf (engineOf w) offset value) w
+
+-- some steps: the answer's number, the last event, how many they were, the words and the memory
+pub record WordsAfterWalk : Type 0 where
+  pub answer : ℕ
+  pub event : Event
+  pub steps : ℕ
+  pub words : List ℕ
+  pub memory : List ℕ
+
+abbrev pub walkWordsSeen : WalkedWords → List ℕ → List ℕ → WordsAfterWalk
+walkWordsSeen r w m = record { answer = r .answer; event = r .event; steps = r .steps; words = w; memory = m }
+
+abbrev pub wordsAfterWalk : ℕ → AfterWalk → List ℕ → WordsAfterWalk
+wordsAfterWalk n r w = record { answer = n; event = r .event; steps = r .steps; words = wordsAfter n (r .engine) w; memory = r .memory }
+
+abbrev pub walkWordsOf : ℕ → List ℕ → List ℕ → List ℕ → WordsAfterWalk
+walkWordsOf most w m windows =
+    let s = engineOf w in
+    let n = refusalOf s (length m) (length windows / 2) in
+    wordsAfterWalk n (when (eqb n 0) (walkFrom most 0 (begun s m) (windowsOf windows)) (afterSteps 0 (begun s m))) w
 
 -- a step's answer, and what is told of its event
 abbrev pub stepReportOf : ℕ → Event → SteppedForC

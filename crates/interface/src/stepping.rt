@@ -1,15 +1,23 @@
 // include/belikumba.h, "Engine": one step and a run of steps, over an engine's words.
 use crate::moving::move_on_words;
+use kit::answer::Answer;
 use kit::answer::number;
+use kit::limits::MOST_MEMORY;
+use kit::limits::MOST_WINDOWS;
+use kit::settings::legal;
 use moves::move_on::MovedOn;
-use runs::run::run;
-use runs::run::step;
+use runs::walk::walk;
 use steps::event::Event;
 use steps::report::report_of;
-use words::engine_words::load;
+use words::engine_words::engine_from;
+use words::engine_words::settings;
 use words::engine_words::store;
+use words::spelling::sound;
 ghost use mathlib.Core.Path.{_≡_};
-ghost use Rattle.interface.specs.Calls.{stepReportOf, stepWordsOf, stepWordsSeen, runWordsOf, runWordsSeen};
+ghost use Rattle.kit.specs.Answer.{numberOf};
+ghost use Rattle.runs.specs.Run.{refusalOf};
+ghost use Rattle.words.specs.EngineWords.{engineOf};
+ghost use Rattle.interface.specs.Calls.{stepReportOf, walkWordsOf, walkWordsSeen, stepWordsOf, stepWordsSeen, runWordsOf, runWordsSeen};
 
 // An answer's number, the event's number and its two numbers, all 0 beside a refusal.
 #[repr(C)]
@@ -40,20 +48,68 @@ fn step_report(answer: u32, event: Event) -> SteppedForC
     }
 }
 
-// Any step: the engine is read, and stored where the answer is 0.
+// Some steps over the words: the answer, the last event, none beside a refusal, and how many there were.
+pub struct WalkedWords {
+    pub answer: u32,
+    pub event: Event,
+    pub steps: u32,
+}
+
+// The first answer that fits, in the order 1, 2, 6, 9, or done.
+fn judge_words(words: &[u32; 20], size: usize, windows: usize) -> Answer
+    ensures { λ r. ⌜ numberOf r ≡ refusalOf (engineOf (now (words .entry))) size windows ⌝ }
+{
+    if !legal(settings(words)) {
+        return Answer::Settings;
+    }
+    if size > MOST_MEMORY {
+        return Answer::MemorySize;
+    }
+    if windows > MOST_WINDOWS {
+        return Answer::WindowCount;
+    }
+    if !sound(words) {
+        return Answer::State;
+    }
+    Answer::Done
+}
+
+// Up to `most` steps of the engine that the words hold: the one place from which the engine is read, walks and is stored.
+fn walk_words(
+    words: &mut [u32; 20],
+    memory: &mut [u8],
+    windows: &[u32],
+    most: u32,
+) -> WalkedWords
+    ensures { λ r. ⌜ walkWordsSeen r (now (words .exit)) (now (memory .exit)) ≡ walkWordsOf most (now (words .entry)) (now (memory .entry)) (now (windows .entry)) ⌝ }
+{
+    let answer = judge_words(words, memory.len(), windows.len() / 2);
+    let answer = number(answer);
+    if answer != 0 {
+        return WalkedWords {
+            answer,
+            event: Event::None,
+            steps: 0,
+        };
+    }
+    let walked = walk(engine_from(words), memory, windows, most);
+    let engine = walked.engine;
+    store(engine, words);
+    let event = walked.event;
+    WalkedWords {
+        answer,
+        event,
+        steps: walked.steps,
+    }
+}
+
+// Any step, as a walk of one.
 fn whole_step(words: &mut [u32; 20], memory: &mut [u8], windows: &[u32]) -> SteppedForC
     ensures { λ r. ⌜ stepWordsSeen r (now (words .exit)) (now (memory .exit)) ≡ stepWordsOf (now (words .entry)) (now (memory .entry)) (now (windows .entry)) ⌝ }
 {
-    let stepped = step(load(words), memory, windows);
-    let answer = stepped.answer;
-    let answer = number(answer);
-    let event = stepped.event;
-    let report = step_report(answer, event);
-    if answer == 0 {
-        let engine = stepped.engine;
-        store(engine, words);
-    }
-    report
+    let walked = walk_words(words, memory, windows, 1);
+    let event = walked.event;
+    step_report(walked.answer, event)
 }
 
 #[no_mangle]
@@ -80,15 +136,9 @@ pub extern "C" fn belikumba_run(
 ) -> RanForC
     ensures { λ r. ⌜ runWordsSeen r (now (words .exit)) (now (memory .exit)) ≡ runWordsOf most (now (words .entry)) (now (memory .entry)) (now (windows .entry)) ⌝ }
 {
-    let ran = run(load(words), memory, windows, most);
-    let answer = ran.answer;
-    let answer = number(answer);
-    if answer == 0 {
-        let engine = ran.engine;
-        store(engine, words);
-    }
+    let walked = walk_words(words, memory, windows, most as u32);
     RanForC {
-        answer,
-        steps: ran.steps,
+        answer: walked.answer,
+        steps: walked.steps,
     }
 }

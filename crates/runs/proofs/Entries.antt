@@ -36,7 +36,8 @@ advance-idle s m windows e = advance-by s m windows (idle (s .phase) e) refl
 abbrev pub unstepped : AfterWalk → AfterAdvance
 unstepped w = record { event = w .event; engine = w .engine; memory = w .memory }
 
-one-step : (s : Engine) (m : List ℕ) (windows : List Window) → unstepped (walkFrom 1 0 (begun s m) windows) ≡ advanceOf s m windows
+-- a walk of one step
+pub one-step : (s : Engine) (m : List ℕ) (windows : List Window) → unstepped (walkFrom 1 0 (begun s m) windows) ≡ advanceOf s m windows
 one-step s m windows = go (decide (busyOf (s .phase)))
   where
     go : (busyOf (s .phase) ≡ true) ⊎ (busyOf (s .phase) ≡ false) → unstepped (walkFrom 1 0 (begun s m) windows) ≡ advanceOf s m windows

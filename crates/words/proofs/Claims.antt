@@ -1,7 +1,8 @@
 -- The claims of specs/Claims.antt.
 use mathlib.Core.Path.{refl}
 use Rattle.words.specs.Claims.{Words}
-use Rattle.words.proofs.Engines.{stored-back, words-differ, read-back}
+use Rattle.words.proofs.Engines.{stored-back, words-differ, read-back, sound-well-formed}
+use Rattle.words.proofs.Spelled.{spelled-same}
 
 pub words : Words
 words = record {
@@ -9,4 +10,6 @@ words = record {
   engines-differ = words-differ;
   words-back = read-back;
   fresh-engine = λ settings. refl;
+  spelled = spelled-same;
+  sound = sound-well-formed;
 }

@@ -1,4 +1,5 @@
 pub mod Same
+pub mod Spelled
 pub mod Engines
-pub mod Moving
+pub mod Midst
 pub mod Claims

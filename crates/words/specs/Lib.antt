@@ -1,3 +1,3 @@
 pub mod EngineWords
-pub mod MovingWords
+pub mod Spelling
 pub mod Claims

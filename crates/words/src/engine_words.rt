@@ -10,9 +10,8 @@ use state::engine::Simple;
 use state::engine::Status;
 use state::engine::Transfer;
 use state::engine::bit_number;
-use state::engine::fresh;
 ghost use mathlib.Core.Path.{_≡_};
-ghost use Rattle.words.specs.EngineWords.{truth as truthOf, phaseNumberOf, movingOf, wordsOf, errorBitFrom, phaseFrom, settingsFrom, controlFrom, statusFrom, pointersFrom, simpleFrom, transferFrom, engineFrom, sameWords, illFormedOf, engineOf};
+ghost use Rattle.words.specs.EngineWords.{truth as truthOf, phaseNumberOf, movingOf, wordsOf, errorBitFrom, phaseFrom, settingsFrom, controlFrom, statusFrom, pointersFrom, simpleFrom, transferFrom, engineFrom};
 
 fn truth(set: bool) -> u32
     ensures { λ r. ⌜ r ≡ truthOf set ⌝ }
@@ -176,7 +175,7 @@ pub fn transfer(words: &[u32; 20]) -> Transfer
 }
 
 // The engine that the words spell, whether or not an engine has such words.
-fn engine_from(words: &[u32; 20]) -> Engine
+pub fn engine_from(words: &[u32; 20]) -> Engine
     ensures { λ r. ⌜ r ≡ engineFrom (now (words .entry)) ⌝ }
 {
     let transfer = transfer(words);
@@ -187,50 +186,5 @@ fn engine_from(words: &[u32; 20]) -> Engine
         pointers: pointers(words),
         simple: simple(words),
         phase: phase(words[15], transfer),
-    }
-}
-
-fn same(words: &[u32], others: &[u32]) -> bool
-    ensures { λ r. ⌜ r ≡ sameWords (now (words .entry)) (now (others .entry)) ⌝ }
-{
-    if words.len() != others.len() {
-        return false;
-    }
-    let mut i = 0;
-    while i < words.len() {
-        if words[i] != others[i] {
-            return false;
-        }
-        i += 1;
-    }
-    true
-}
-
-// Words that no engine has stand for one that is not well formed, so that each call on them is answered in its order.
-fn ill_formed(settings: Settings) -> Engine
-    ensures { λ r. ⌜ r ≡ illFormedOf settings ⌝ }
-{
-    let engine = fresh(settings);
-    Engine {
-        pointers: Pointers {
-            current: 1,
-            tail: 0,
-            next: 0,
-            heldnext: 0,
-        },
-        ..engine
-    }
-}
-
-pub fn load(words: &[u32; 20]) -> Engine
-    ensures { λ r. ⌜ r ≡ engineOf (now (words .entry)) ⌝ }
-{
-    let engine = engine_from(words);
-    let mut again = [0u32; 20];
-    store(engine, &mut again);
-    if same(words, &again) {
-        engine
-    } else {
-        ill_formed(engine.settings)
     }
 }

@@ -5,8 +5,8 @@ use lib.Dec.{ltb, leb}
 use Rattle.kit.specs.Limits.{mostBytes}
 use Rattle.words.specs.EngineWords.{word}
 use borrow.Author.Needs.{needs}
-use Rattle.words.proofs.moving_words.fits.Statement.{statement}
-use Rattle.words.proofs.moving_words.fits.Tie as tie
+use Rattle.words.proofs.spelling.fits.Statement.{statement}
+use Rattle.words.proofs.spelling.fits.Tie as tie
 
 element-copy-out-moved : tie.Need-element-copy-out-moved
 element-copy-out-moved c = search needs

@@ -26,7 +26,7 @@ use Rattle.claims.specs.Calls.{Sound, Accept, stepsOf, Run}
 pub accept : Accept
 accept s [] h p = (tt, h)
 accept s (step m windows ∷ more) h (bytes, small, few, p) =
-    let simple = advance-keeps s m windows .simple in
+    let simple = advance-keeps s m windows .engine .simple in
     let now : Acceptable s m (length windows) = record { legal = h .legal; small = small; few = few; well = h .well; bytes = bytes } in
     let next = advance-acceptable s m windows (length windows) now in
     let (rest, end) = accept (act s (step m windows)) more

@@ -11,7 +11,7 @@ use steps::event::Event;
 use steps::report::report_of;
 use words::engine_words::engine_from;
 use words::engine_words::settings;
-use words::engine_words::store;
+use words::engine_words::store_stepped;
 use words::spelling::sound;
 ghost use mathlib.Core.Path.{_≡_};
 ghost use Rattle.kit.specs.Answer.{numberOf};
@@ -94,7 +94,7 @@ fn walk_words(
     }
     let walked = walk(engine_from(words), memory, windows, most);
     let engine = walked.engine;
-    store(engine, words);
+    store_stepped(engine, words);
     let event = walked.event;
     WalkedWords {
         answer,

@@ -41,7 +41,7 @@ pub advance-acceptable : AdvanceAcceptable
 advance-acceptable s m windows n a =
     let k = advance-keeps s m windows in
     record {
-      legal = subst (λ (x : Settings). legalOf x ≡ true) (sym (k .settings)) (a .legal);
+      legal = subst (λ (x : Settings). legalOf x ≡ true) (sym (k .engine .settings)) (a .legal);
       small = subst (λ (x : ℕ). x ≤ mostMemory) (sym (k .length)) (a .small);
       few = a .few;
       well = advance-well-formed s m windows (a .legal) (a .small) (a .bytes) (a .well);

@@ -1,7 +1,7 @@
 -- Laws of `walkFrom`: it stops at its budget and where the engine is idle, else it takes a step, or several, and goes on.
 use mathlib.Core.Path.{_≡_, refl, sym, ap, ap₂, subst, _∙_}
 use Prim.Native.Nat.{ℕ, zero, suc, _+_, _-_, _≤_, _<_}
-use mathlib.Core.Bool.{true, false}
+use mathlib.Core.Bool.{Bool, true, false}
 use mathlib.Core.List.{List}
 use lib.ListN.{length}
 use native.Mathlib.Omega.{arith}
@@ -10,7 +10,8 @@ use Rattle.state.specs.declared.engine.Engine.{Engine}
 use Rattle.state.specs.State.{busyOf}
 use Rattle.steps.specs.declared.event.Event.{Event}
 use Rattle.steps.specs.Step.{AfterAdvance, begun, advanceOf}
-use Rattle.steps.proofs.Keeps.{advance-keeps}
+use Rattle.steps.specs.Claims.{Lasts}
+use Rattle.steps.proofs.Keeps.{lasts-same, lasts-on, advance-keeps}
 use Rattle.moves.specs.Moves.{Reaches, none, more}
 use Rattle.runs.specs.Run.{AfterWalk, afterSteps, walkFrom}
 use Rattle.runs.specs.Claims.{Acceptable}
@@ -58,16 +59,11 @@ module _ {windows : List Window} {r : AfterAdvance} where
   reaches-length none = refl
   reaches-length (more {s = s} p busy) = advance-keeps (s .engine) (s .memory) windows .length ∙ reaches-length p
 
+  pub reaches-lasts : {n : ℕ} {x : AfterAdvance} → Reaches windows r n x → Lasts (r .engine) (x .engine)
+  reaches-lasts none = lasts-same (r .engine)
+  reaches-lasts (more {s = s} p busy) = lasts-on (reaches-lasts p) (advance-keeps (s .engine) (s .memory) windows .engine)
+
   -- a walk goes through where its steps lead
-  -- and keeps the settings, SA, DA and BTT
-  pub reaches-settings : {n : ℕ} {x : AfterAdvance} → Reaches windows r n x → x .engine .settings ≡ r .engine .settings
-  reaches-settings none = refl
-  reaches-settings (more {s = s} p busy) = advance-keeps (s .engine) (s .memory) windows .settings ∙ reaches-settings p
-
-  pub reaches-simple : {n : ℕ} {x : AfterAdvance} → Reaches windows r n x → x .engine .simple ≡ r .engine .simple
-  reaches-simple none = refl
-  reaches-simple (more {s = s} p busy) = advance-keeps (s .engine) (s .memory) windows .simple ∙ reaches-simple p
-
   pub reaches-walk : {n : ℕ} {x : AfterAdvance} → Reaches windows r n x → (k i : ℕ) → walkFrom (n + k) i r windows ≡ walkFrom k (i + n) x windows
   reaches-walk none k i =
       let e : 0 + k ≡ k = omega arith in
@@ -80,6 +76,20 @@ module _ {windows : List Window} {r : AfterAdvance} where
       ap (λ (a : ℕ). walkFrom a i r windows) e ∙ reaches-walk p (k + 1) i
       ∙ walk-step (i + n) s windows (k + 1) (omega arith) busy
       ∙ ap₂ (λ (a b : ℕ). walkFrom a b (advanceOf (s .engine) (s .memory) windows) windows) f g
+
+-- a walk keeps what only a register write changes
+pub walk-lasts : (n i : ℕ) (r : AfterAdvance) (windows : List Window) → Lasts (r .engine) (walkFrom n i r windows .engine)
+unfolding walkFrom
+walk-lasts zero i r windows = lasts-same (r .engine)
+walk-lasts (suc n) i r windows = go (walk-lasts n (suc i) next windows) (busyOf (r .engine .phase))
+  where
+    next : AfterAdvance
+    next = advanceOf (r .engine) (r .memory) windows
+
+    go : Lasts (next .engine) (walkFrom n (suc i) next windows .engine) → (busy : Bool)
+        → let x : AfterWalk = elim busy [ true ↦ walkFrom n (suc i) next windows | false ↦ afterSteps i r ] in Lasts (r .engine) (x .engine)
+    go later true = lasts-on (advance-keeps (r .engine) (r .memory) windows .engine) later
+    go later false = lasts-same (r .engine)
 
 -- one step of a busy engine
 pub reaches-one : {s : Engine} {m m′ : List ℕ} {windows : List Window} {x : AfterAdvance} → busyOf (s .phase) ≡ true → m ≡ m′ → x ≡ advanceOf s m′ windows

@@ -1,4 +1,4 @@
--- What a step keeps: the settings, SA, DA and BTT, the memory's length and bytes, and the state's being well formed.
+-- What a step keeps: what only a register write changes, the memory's length and bytes, and the state's being well formed.
 use mathlib.Core.Path.{_≡_, refl, sym, ap, subst, _∙_}
 use Prim.Native.Nat.{ℕ, _+_, _/_, _≤_, _<_}
 use mathlib.Core.Bool.{Bool, true, false}
@@ -31,35 +31,41 @@ use Rattle.state.specs.Descriptor.{startOf}
 use Rattle.state.specs.State.{busyOf, errorSetOf, phaseFits, transferFits, wellFormedOf, withStatus, withPhase}
 use Rattle.state.proofs.WellFormed.{transfer-fits, transfer-fits-test, WellFormed, well-formed, well-formed-test}
 use Rattle.steps.specs.Step.{AfterAdvance, stopOnErrorOf, phaseAfterFetchOf, finishTransferOf, readsAt, writesAt, nextBytes, statusPlace, statusWordOf, completeDescriptorOf, retireOf, advanceOf}
-use Rattle.steps.specs.Claims.{Bytes, Keeps, AdvanceKeeps, AdvanceWellFormed}
+use Rattle.steps.specs.Claims.{Bytes, Lasts, Keeps, AdvanceKeeps, AdvanceWellFormed}
 use Rattle.steps.proofs.Advances.{Advance, rests, halts, fetches, moves, faults, updates, descriptor, advances}
 use Rattle.steps.proofs.Bursts.{burst-fits}
 use Rattle.steps.proofs.Stored.{word-fits, sets-bytes, copied-bytes, word-bytes}
 
--- ---- settings, registers, and the memory
+-- ---- what only a register write changes, and the memory
+
+pub lasts-same : (s : Engine) → Lasts s s
+lasts-same s = record { settings = refl; control = refl; tail = refl; simple = refl }
+
+pub lasts-on : {s x y : Engine} → Lasts s x → Lasts x y → Lasts s y
+lasts-on a b = record {
+  settings = b .settings ∙ a .settings;
+  control = b .control ∙ a .control;
+  tail = b .tail ∙ a .tail;
+  simple = b .simple ∙ a .simple;
+}
 
 module _ (s : Engine) (m : List ℕ) where
-  -- an engine with the same settings, SA, DA and BTT
-  record Lasts (x : Engine) : Type 0 where
-    settings : x .settings ≡ s .settings
-    simple : x .simple ≡ s .simple
-
-  retire-lasts : (o : Outcome) → Lasts (retireOf s o)
+  retire-lasts : (o : Outcome) → Lasts s (retireOf s o)
   retire-lasts Complete =
-      cases Lasts (eqb (s .pointers .current) (s .pointers .tail)) (λ _. record { settings = refl; simple = refl }) (λ _. record { settings = refl; simple = refl })
-  retire-lasts Internal = record { settings = refl; simple = refl }
-  retire-lasts Slave = record { settings = refl; simple = refl }
-  retire-lasts Decode = record { settings = refl; simple = refl }
+      cases (Lasts s) (eqb (s .pointers .current) (s .pointers .tail)) (λ _. record { settings = refl; control = refl; tail = refl; simple = refl }) (λ _. record { settings = refl; control = refl; tail = refl; simple = refl })
+  retire-lasts Internal = record { settings = refl; control = refl; tail = refl; simple = refl }
+  retire-lasts Slave = record { settings = refl; control = refl; tail = refl; simple = refl }
+  retire-lasts Decode = record { settings = refl; control = refl; tail = refl; simple = refl }
 
-  engine-lasts : {windows : List Window} {r : AfterAdvance} → Advance s m windows r → Lasts (r .engine)
-  engine-lasts (rests e) = record { settings = refl; simple = refl }
-  engine-lasts (halts e b f) = record { settings = refl; simple = refl }
-  engine-lasts (fetches e okay fresh) = record { settings = refl; simple = refl }
+  engine-lasts : {windows : List Window} {r : AfterAdvance} → Advance s m windows r → Lasts s (r .engine)
+  engine-lasts (rests e) = record { settings = refl; control = refl; tail = refl; simple = refl }
+  engine-lasts (halts e b f) = record { settings = refl; control = refl; tail = refl; simple = refl }
+  engine-lasts (fetches e okay fresh) = record { settings = refl; control = refl; tail = refl; simple = refl }
   engine-lasts (moves t e okay) =
-      cases Lasts (eqb (t .moved + nextBytes s t) (t .total))
-      (λ _. cases Lasts (s .control .sgmode) (λ _. record { settings = refl; simple = refl }) (λ _. record { settings = refl; simple = refl }))
-      (λ _. record { settings = refl; simple = refl })
-  engine-lasts (faults t e o f b g) = cases Lasts (s .control .sgmode) (λ _. record { settings = refl; simple = refl }) (λ _. record { settings = refl; simple = refl })
+      cases (Lasts s) (eqb (t .moved + nextBytes s t) (t .total))
+      (λ _. cases (Lasts s) (s .control .sgmode) (λ _. record { settings = refl; control = refl; tail = refl; simple = refl }) (λ _. record { settings = refl; control = refl; tail = refl; simple = refl }))
+      (λ _. record { settings = refl; control = refl; tail = refl; simple = refl })
+  engine-lasts (faults t e o f b g) = cases (Lasts s) (s .control .sgmode) (λ _. record { settings = refl; control = refl; tail = refl; simple = refl }) (λ _. record { settings = refl; control = refl; tail = refl; simple = refl })
   engine-lasts (updates o e okay) = retire-lasts o
 
   memory-length : {windows : List Window} {r : AfterAdvance} → Advance s m windows r → length (r .memory) ≡ length m
@@ -81,8 +87,7 @@ module _ (s : Engine) (m : List ℕ) where
 pub advance-keeps : AdvanceKeeps
 advance-keeps s m windows =
     let a = advances s m windows in
-    let k = engine-lasts s m a in
-    record { settings = k .settings; simple = k .simple; length = memory-length s m a; bytes = memory-bytes s m a }
+    record { engine = engine-lasts s m a; length = memory-length s m a; bytes = memory-bytes s m a }
 
 -- ---- well formed
 

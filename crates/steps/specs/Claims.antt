@@ -15,10 +15,16 @@ use Rattle.steps.specs.Step.{AfterAdvance, advanceOf}
 abbrev pub Bytes : List ℕ → Type 0
 Bytes m = (i : ℕ) → getD m i 0 < 256
 
--- the settings, SA, DA and BTT, the memory's length, and that memory holds bytes
+-- what of an engine only a register write changes: the settings, CDMACR, the tail pointer, SA, DA and BTT
+pub record Lasts (s x : Engine) : Type 0 where
+  pub settings : x .settings ≡ s .settings
+  pub control : x .control ≡ s .control
+  pub tail : x .pointers .tail ≡ s .pointers .tail
+  pub simple : x .simple ≡ s .simple
+
+-- that, the memory's length, and that memory holds bytes
 pub record Keeps (s : Engine) (m : List ℕ) (r : AfterAdvance) : Type 0 where
-  pub settings : r .engine .settings ≡ s .settings
-  pub simple : r .engine .simple ≡ s .simple
+  pub engine : Lasts s (r .engine)
   pub length : length (r .memory) ≡ length m
   pub bytes : Bytes m → Bytes (r .memory)
 

@@ -103,10 +103,10 @@ step-sound s n taken lent h =
 
     stepped : Sound (advanceOf e m windows .engine) (s .windows) m (lent .windows)
     stepped = record {
-      legal = ap legalOf (advance-keeps e m windows .settings) ∙ h .legal;
+      legal = ap legalOf (advance-keeps e m windows .engine .settings) ∙ h .legal;
       well = advance-well-formed e m windows (h .legal) (h .small) (h .bytes) (h .well);
-      source = omega (arith, ap {B = ℕ} (λ x. x .sa) (advance-keeps e m windows .simple), h .source);
-      destination = omega (arith, ap {B = ℕ} (λ x. x .da) (advance-keeps e m windows .simple), h .destination);
+      source = omega (arith, ap {B = ℕ} (λ x. x .sa) (advance-keeps e m windows .engine .simple), h .source);
+      destination = omega (arith, ap {B = ℕ} (λ x. x .da) (advance-keeps e m windows .engine .simple), h .destination);
       few = h .few;
       small = h .small;
       bytes = h .bytes;

@@ -15,7 +15,7 @@ use Rattle.state.specs.declared.engine.Phase.{Phase}
 use Rattle.state.specs.declared.engine.Phase.the-variants.{Idle, Fetch, Move, Update}
 use Rattle.state.specs.State.{freshOf, wellFormedOf}
 use Rattle.state.specs.Bits.{errorBitOf}
-use Rattle.words.specs.EngineWords.{truth, phaseNumberOf, movingOf, wordsOf, errorBitFrom, phaseFrom, settingsFrom, engineFrom, sameWords, illFormedOf, engineOf}
+use Rattle.words.specs.EngineWords.{truth, phaseNumberOf, movingOf, wordsOf, steppedWordsOf, errorBitFrom, phaseFrom, settingsFrom, engineFrom, sameWords, illFormedOf, engineOf}
 use Rattle.words.specs.Spelling.{spelledOf, soundOf}
 use Rattle.words.proofs.Same.{same-equal, same-itself}
 use Rattle.words.proofs.Spelled.{same-truth, spelled-same, sound-spelled, sound-words}
@@ -69,6 +69,19 @@ unfolding engineOf
 stored-back s =
     let same = ap (λ (x : Engine). sameWords (wordsOf s) (wordsOf x)) (engine-from-back s) ∙ same-itself (wordsOf s) in
     sym (yes (illFormedOf (s .settings)) same (sym (engine-from-back s)))
+
+-- the words after some steps are those of the engine after them
+pub stepped-words : (s x : Engine) → x .settings ≡ s .settings → x .control ≡ s .control → x .pointers .tail ≡ s .pointers .tail → x .simple ≡ s .simple
+    → steppedWordsOf x (wordsOf s) ≡ wordsOf x
+stepped-words s x settings control tail simple =
+    λ i. wordsOf (record {
+      settings = sym settings i;
+      control = sym control i;
+      status = x .status;
+      pointers = record { current = x .pointers .current; tail = sym tail i; next = x .pointers .next; heldnext = x .pointers .heldnext };
+      simple = sym simple i;
+      phase = x .phase;
+    })
 
 -- an engine has one list of words
 pub words-differ : (s t : Engine) → wordsOf s ≡ wordsOf t → s ≡ t

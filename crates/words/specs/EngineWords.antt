@@ -60,6 +60,22 @@ wordsOf s =
     ∷ phaseNumberOf (s .phase) ∷ t .source ∷ t .destination ∷ t .total ∷ t .moved
     ∷ []
 
+-- word i
+abbrev pub word : List ℕ → ℕ → ℕ
+word w i = getD w i 0
+
+-- after some steps: what only a register write changes is as it was in w
+abbrev pub steppedWordsOf : Engine → List ℕ → List ℕ
+steppedWordsOf s w =
+    let t = movingOf (s .phase) in
+    word w 0 ∷ word w 1
+    ∷ word w 2 ∷ word w 3 ∷ word w 4
+    ∷ errorBitOf (s .status .fault) ∷ truth (s .status .ioc) ∷ truth (s .status .err)
+    ∷ s .pointers .current ∷ word w 9 ∷ s .pointers .next ∷ s .pointers .heldnext
+    ∷ word w 12 ∷ word w 13 ∷ word w 14
+    ∷ phaseNumberOf (s .phase) ∷ t .source ∷ t .destination ∷ t .total ∷ t .moved
+    ∷ []
+
 unfoldable pub errorBitFrom : ℕ → ErrorBit
 errorBitFrom n =
     when (eqb n 4) DmaIntErr (when (eqb n 5) DmaSlvErr (when (eqb n 6) DmaDecErr
@@ -69,10 +85,6 @@ unfoldable pub phaseFrom : ℕ → Transfer → Phase
 phaseFrom n t =
     when (eqb n 1) Fetch (when (eqb n 2) (Move t)
     (when (eqb n 28) (Update Internal) (when (eqb n 29) (Update Slave) (when (eqb n 30) (Update Decode) (when (eqb n 31) (Update Complete) Idle)))))
-
--- word i
-abbrev pub word : List ℕ → ℕ → ℕ
-word w i = getD w i 0
 
 abbrev pub settingsFrom : List ℕ → Settings
 settingsFrom w = record { width = word w 0; beats = word w 1 }

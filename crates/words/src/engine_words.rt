@@ -11,7 +11,7 @@ use state::engine::Status;
 use state::engine::Transfer;
 use state::engine::bit_number;
 ghost use mathlib.Core.Path.{_≡_};
-ghost use Rattle.words.specs.EngineWords.{truth as truthOf, phaseNumberOf, movingOf, wordsOf, errorBitFrom, phaseFrom, settingsFrom, controlFrom, statusFrom, pointersFrom, simpleFrom, transferFrom, engineFrom};
+ghost use Rattle.words.specs.EngineWords.{truth as truthOf, phaseNumberOf, movingOf, wordsOf, steppedWordsOf, errorBitFrom, phaseFrom, settingsFrom, controlFrom, statusFrom, pointersFrom, simpleFrom, transferFrom, engineFrom};
 
 fn truth(set: bool) -> u32
     ensures { λ r. ⌜ r ≡ truthOf set ⌝ }
@@ -85,6 +85,38 @@ pub fn store(engine: Engine, words: &mut [u32; 20])
     ];
 }
 
+// The engine after some steps, in place of the one that the words held: what only a register write changes stays as it stands.
+pub fn store_stepped(engine: Engine, words: &mut [u32; 20])
+    ensures { λ _. ⌜ now (words .exit) ≡ steppedWordsOf engine (now (words .entry)) ⌝ }
+{
+    let status = engine.status;
+    let fault = status.fault;
+    let phase = engine.phase;
+    let transfer = moving(phase);
+    *words = [
+        words[0],
+        words[1],
+        words[2],
+        words[3],
+        words[4],
+        bit_number(fault),
+        truth(status.ioc),
+        truth(status.err),
+        engine.pointers.current,
+        words[9],
+        engine.pointers.next,
+        engine.pointers.heldnext,
+        words[12],
+        words[13],
+        words[14],
+        phase_number(phase),
+        transfer.source,
+        transfer.destination,
+        transfer.total,
+        transfer.moved,
+    ];
+}
+
 fn error_bit(number: u32) -> ErrorBit
     ensures { λ r. ⌜ r ≡ errorBitFrom number ⌝ }
 {
@@ -99,7 +131,7 @@ fn error_bit(number: u32) -> ErrorBit
     }
 }
 
-fn phase(number: u32, transfer: Transfer) -> Phase
+pub fn phase(number: u32, transfer: Transfer) -> Phase
     ensures { λ r. ⌜ r ≡ phaseFrom number transfer ⌝ }
 {
     match number {
@@ -122,7 +154,7 @@ pub fn settings(words: &[u32; 20]) -> Settings
     }
 }
 
-fn control(words: &[u32; 20]) -> Control
+pub fn control(words: &[u32; 20]) -> Control
     ensures { λ r. ⌜ r ≡ controlFrom (now (words .entry)) ⌝ }
 {
     Control {
@@ -132,7 +164,7 @@ fn control(words: &[u32; 20]) -> Control
     }
 }
 
-fn status(words: &[u32; 20]) -> Status
+pub fn status(words: &[u32; 20]) -> Status
     ensures { λ r. ⌜ r ≡ statusFrom (now (words .entry)) ⌝ }
 {
     Status {
@@ -142,7 +174,7 @@ fn status(words: &[u32; 20]) -> Status
     }
 }
 
-fn pointers(words: &[u32; 20]) -> Pointers
+pub fn pointers(words: &[u32; 20]) -> Pointers
     ensures { λ r. ⌜ r ≡ pointersFrom (now (words .entry)) ⌝ }
 {
     Pointers {
@@ -153,7 +185,7 @@ fn pointers(words: &[u32; 20]) -> Pointers
     }
 }
 
-fn simple(words: &[u32; 20]) -> Simple
+pub fn simple(words: &[u32; 20]) -> Simple
     ensures { λ r. ⌜ r ≡ simpleFrom (now (words .entry)) ⌝ }
 {
     Simple {

@@ -1,7 +1,12 @@
 // include/belikumba.h, "Engine": which numbers are an engine's words, and which are those of a well-formed one. They are judged
 // as they stand: an engine made of them and stored again to be compared would cost as much as a step.
-use crate::engine_words::engine_from;
+use crate::engine_words::control;
+use crate::engine_words::phase;
+use crate::engine_words::pointers;
 use crate::engine_words::settings;
+use crate::engine_words::simple;
+use crate::engine_words::status;
+use crate::engine_words::transfer;
 use kit::limits::ADDRESS_END;
 use kit::limits::MOST_BYTES;
 use kit::settings::Settings;
@@ -90,10 +95,19 @@ fn ill_formed(settings: Settings) -> Engine
 pub fn load(words: &[u32; 20]) -> Engine
     ensures { λ r. ⌜ r ≡ engineOf (now (words .entry)) ⌝ }
 {
-    if spelled(words) {
-        engine_from(words)
-    } else {
-        ill_formed(settings(words))
+    let settings = settings(words);
+    if !spelled(words) {
+        return ill_formed(settings);
+    }
+    // Told again and not by `engine_from`: a second caller would make that a call, and a run of few steps slower by a tenth.
+    let transfer = transfer(words);
+    Engine {
+        settings,
+        control: control(words),
+        status: status(words),
+        pointers: pointers(words),
+        simple: simple(words),
+        phase: phase(words[15], transfer),
     }
 }
 

@@ -8,10 +8,9 @@ use Rattle.state.specs.declared.engine.Engine.{Engine}
 use Rattle.state.specs.State.{wellFormedOf}
 use Rattle.steps.specs.Step.{begun}
 use Rattle.runs.specs.Run.{refusalOf, walkFrom}
-use Rattle.runs.specs.Claims.{Acceptable}
 use Rattle.words.specs.EngineWords.{engineFrom, engineOf}
 use Rattle.interface.proofs.CallResults.{walk-refused, walk-taken}
-use Rattle.interface.proofs.Judges.{unrefused-engine}
+use Rattle.interface.proofs.Judges.{Accepted, accepted, stored-steps}
 use borrow.Author.Needs.{needs}
 use Rattle.interface.proofs.stepping.walk_words.Statement.{statement}
 use Rattle.interface.proofs.stepping.walk_words.Tie as tie
@@ -20,13 +19,12 @@ number : (c : tie.After-number) → let a = c .before .before .before .before .b
     c .number .result ≡ refusalOf (engineOf (now (a .words))) (length (now (a .memory))) (length (now (a .windows)) / 2)
 number c = c .number .ensures ∙ c .before .judge-words .ensures
 
--- the words that were not refused spell their engine
-accepted : (c : tie.After-engine-from) → let a = c .before .before .before .before .before .before .before .before .args in
-    (engineOf (now (a .words)) ≡ engineFrom (now (a .words))) × Acceptable (engineFrom (now (a .words))) (now (a .memory)) (length (now (a .windows)) / 2)
-accepted c =
+taken : (c : tie.After-engine-from) → let a = c .before .before .before .before .before .before .before .before .args in
+    Accepted (now (a .words)) (now (a .memory)) (length (now (a .windows)) / 2)
+taken c =
     let judged = c .before .before .before in
     let a = judged .before .before .before .before .before .args in
-    unrefused-engine (now (a .words)) (now (a .memory)) (length (now (a .windows)) / 2) (sym (number judged) ∙ c .before .before .if1 .left) (λ i. judged .before .before .before .before .slice-known .given i .fits)
+    accepted (now (a .words)) (now (a .memory)) (length (now (a .windows)) / 2) (sym (number judged) ∙ c .before .before .if1 .left) (λ i. judged .before .before .before .before .slice-known .given i .fits)
 
 returns : tie.Need-returns
 returns c =
@@ -36,7 +34,7 @@ returns c =
 
 walk-requires : tie.Need-walk-requires
 walk-requires c κs =
-    let p = accepted (c .before) .1 in
+    let p = taken (c .before) .acceptable in
     let same = c .before .engine-from .ensures in
     (ap (λ (s : Engine). legalOf (s .settings)) same ∙ p .legal, (p .small, ap (λ (s : Engine). wellFormedOf s) same ∙ p .well))
 
@@ -46,9 +44,14 @@ returns-2 c =
     let read = walked .before .before in
     let judged = read .before .before .before in
     let a = judged .before .before .before .before .before .args in
-    let engines = read .engine-from .ensures ∙ sym (accepted read .0) in
-    walk-taken (a .most) (now (a .words)) (now (a .memory)) (now (a .windows)) (number judged) (walked .walk .result) (read .before .before .if1 .left)
-    (walked .walk .ensures ∙ ap (λ (s : Engine). walkFrom (a .most) 0 (begun s (now (a .memory))) (windowsOf (now (a .windows)))) engines) (c .store .ensures)
+    let w = now (a .words) in
+    let m = now (a .memory) in
+    let windows = windowsOf (now (a .windows)) in
+    let walks =
+        walked .walk .ensures ∙ ap (λ (s : Engine). walkFrom (a .most) 0 (begun s m) windows) (read .engine-from .ensures) in
+    walk-taken (a .most) w m (now (a .windows)) (number judged) (walked .walk .result) (read .before .before .if1 .left)
+    (walks ∙ ap (λ (s : Engine). walkFrom (a .most) 0 (begun s m) windows) (sym (taken read .engine)))
+    (c .store-stepped .ensures ∙ stored-steps w m windows (a .most) (walked .walk .result) (taken read) walks)
 
 pub walk-words-spec : {M : Type 1} → statement M
 walk-words-spec =

@@ -107,7 +107,7 @@ loop-again c =
       telling-same
           (telling-step (v .inv .0) go ens (λ i. c .before .before .before .before .before .before .before .before .before .slice-known4 .given i .fits) (c .before .before .before .before .before .before .before .before .event-line .ensures) (c .before .before .before .before .before .before .put-line2 .ensures) (omega (arith, c .before .before .before .before .before .before .before .before .before .before .before .before .before .before .before .before .loop-test .taken, c .before .before .before .before .before .before .before .before .before .before .before .before .before .before .before .before .before .before .before .before .before .before .before .before .before .before .before .pre .1 .1 .1))
           (omega (arith, c .before .before .before .before .before .before .put-line2 .ensures .past, line-most (c .before .before .before .before .before .before .before .before .event-line .result) (omega (arith, c .before .before .before .before .before .before .before .before .event-line .ok)) (omega (arith, c .before .before .before .before .before .before .before .before .event-line .ok)) (omega (arith, c .before .before .before .before .before .before .before .before .event-line .ok)))))
-          (ap (λ (x : AfterAdvance). x .engine .settings) ens ∙ keeps .settings ∙ v .inv .1) (ap (λ (x : AfterAdvance). x .engine .simple) ens ∙ keeps .simple ∙ v .inv .2),
+          (ap (λ (x : AfterAdvance). x .engine .settings) ens ∙ keeps .engine .settings ∙ v .inv .1) (ap (λ (x : AfterAdvance). x .engine .simple) ens ∙ keeps .engine .simple ∙ v .inv .2),
       refl,
       refl,
     )

@@ -12,7 +12,7 @@ use Rattle.state.specs.declared.engine.Simple.{Simple}
 use Rattle.steps.specs.declared.event.Event.the-variants.{None}
 use Rattle.steps.specs.Step.{advanceSeen}
 use Rattle.runs.specs.Run.{walkFrom}
-use Rattle.runs.proofs.Walks.{reaches-same, reaches-length, reaches-settings, reaches-simple, Walking, walking-begin, walking-on, walking-done, walking-idle}
+use Rattle.runs.proofs.Walks.{reaches-same, reaches-length, reaches-lasts, Walking, walking-begin, walking-on, walking-done, walking-idle}
 use Rattle.runs.proofs.walk.walk.Statement.{statement}
 use Rattle.runs.proofs.walk.walk.Tie as tie
 
@@ -55,8 +55,8 @@ loop-again c =
     let v = c .before .before .before .before .before .before .before .before .before .before .before .before .before .loop in
     let e = c .before .before .before .before .before .before .before .stride .ensures in
     let busy = sym (c .before .before .before .before .before .before .before .before .before .before .busy .ensures) ∙ not-false _ (c .before .before .before .before .before .before .before .before .before .if1 .left) in
-    let settings = sym (reaches-settings (e .0) ∙ v .inv .2) in
-    let simple = sym (reaches-simple (e .0) ∙ v .inv .3) in
+    let settings = sym (reaches-lasts (e .0) .settings ∙ v .inv .2) in
+    let simple = sym (reaches-lasts (e .0) .simple ∙ v .inv .3) in
     (reaches-length (e .0) ∙ v .inv .0, walking-on (v .inv .1) busy (reaches-same refl (rebuilt (c .before .before .before .before .before .before .before .stride .result .engine) settings simple) (e .0)) (e .1 .0) (e .1 .1), refl, refl)
 
 same-length : tie.Need-same-length Inv-loop μ-loop

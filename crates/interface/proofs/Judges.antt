@@ -22,9 +22,10 @@ use Rattle.runs.specs.Claims.{Acceptable}
 use Rattle.runs.proofs.Acceptable.{unrefused-acceptable}
 use Rattle.runs.proofs.Walks.{walk-lasts}
 use Rattle.words.specs.EngineWords.{wordsOf, steppedWordsOf, settingsFrom, engineFrom, engineOf}
-use Rattle.words.specs.Spelling.{soundOf}
-use Rattle.words.proofs.Spelled.{kept, sound-spelled}
-use Rattle.words.proofs.Engines.{stepped-words, engine-settings, sound-engine, sound-well-formed}
+use Rattle.spelling.specs.Spelling.{soundOf}
+use Rattle.spelling.proofs.Listed.{kept, sound-spelled}
+use Rattle.words.proofs.Engines.{stepped-words}
+use Rattle.spelling.proofs.Engines.{engine-settings, sound-engine, sound-well-formed}
 
 module _ (w : List ℕ) (size windows : ℕ) where
   legal-words : legalOf (engineOf w .settings) ≡ legalOf (settingsFrom w)

@@ -28,9 +28,9 @@ use Rattle.runs.specs.Run.{stepAnswer, stepOf}
 use Rattle.runs.specs.Claims.{Acceptable}
 use Rattle.runs.proofs.Entries.{step-advances}
 use Rattle.words.specs.EngineWords.{word, settingsFrom, transferFrom, engineFrom}
-use Rattle.words.specs.Spelling.{movesOf}
-use Rattle.words.proofs.Spelled.{apart}
-use Rattle.words.proofs.Midst.{Midst, midst, moved-words}
+use Rattle.spelling.specs.Spelling.{movesOf}
+use Rattle.spelling.proofs.Listed.{apart}
+use Rattle.spelling.proofs.Midst.{Midst, midst, moved-words}
 use Rattle.interface.specs.declared.stepping.SteppedForC.{SteppedForC}
 use Rattle.interface.specs.Calls.{WordsAfterStep, stepReportOf, stepWordsSeen, wordsAfterStep, stepWordsOf}
 use Rattle.interface.specs.Moving.{goesOnOf, MovesWords}

@@ -10,7 +10,7 @@ use Rattle.steps.specs.declared.event.Event.the-variants.{Move}
 use Rattle.moves.specs.declared.move_on.MovedOn.{MovedOn}
 use Rattle.moves.specs.declared.move_on.MovedOn.the-variants.{Moved, Nothing}
 use Rattle.words.specs.EngineWords.{settingsFrom}
-use Rattle.words.specs.Spelling.{movesOf}
+use Rattle.spelling.specs.Spelling.{movesOf}
 use Rattle.interface.specs.Calls.{stepReportOf, stepWordsSeen, stepWordsOf}
 
 -- a step is not refused, and the engine is in the midst of a transfer

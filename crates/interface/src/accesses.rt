@@ -6,7 +6,7 @@ use registers::write::write;
 use state::engine::interrupt_line;
 use state::engine::well_formed;
 use words::engine_words::store;
-use words::spelling::load;
+use spelling::load;
 ghost use mathlib.Core.Path.{_≡_};
 ghost use Rattle.interface.specs.Calls.{valueSeen, readWordsOf, writeWordsOf, wordsSeen, lineWordsOf};
 

@@ -7,7 +7,7 @@ use moves::move_on::MovedOn;
 use moves::move_on::move_on;
 use words::engine_words::settings;
 use words::engine_words::transfer;
-use words::spelling::moves;
+use spelling::moves;
 ghost use mathlib.Core.Path.{_≡_};
 ghost use Rattle.interface.specs.Moving.{goesOnOf, MovesWords};
 

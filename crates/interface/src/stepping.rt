@@ -12,7 +12,7 @@ use steps::report::report_of;
 use words::engine_words::engine_from;
 use words::engine_words::settings;
 use words::engine_words::store_stepped;
-use words::spelling::sound;
+use spelling::sound;
 ghost use mathlib.Core.Path.{_≡_};
 ghost use Rattle.kit.specs.Answer.{numberOf};
 ghost use Rattle.runs.specs.Run.{refusalOf};

@@ -1,8 +1,7 @@
 -- The claims of specs/Claims.antt.
 use mathlib.Core.Path.{refl}
 use Rattle.words.specs.Claims.{Words}
-use Rattle.words.proofs.Engines.{stored-back, words-differ, read-back, sound-well-formed}
-use Rattle.words.proofs.Spelled.{spelled-same}
+use Rattle.words.proofs.Engines.{stored-back, words-differ, read-back}
 
 pub words : Words
 words = record {
@@ -10,6 +9,4 @@ words = record {
   engines-differ = words-differ;
   words-back = read-back;
   fresh-engine = λ settings. refl;
-  spelled = spelled-same;
-  sound = sound-well-formed;
 }

@@ -1,12 +1,12 @@
 -- What is stored reads back as the same engine, and what reads back is what was stored or no engine.
-use mathlib.Core.Path.{_≡_, refl, sym, ap, subst, _∙_}
+use mathlib.Core.Path.{_≡_, refl, sym, ap, _∙_}
 use Prim.Native.Nat.{ℕ}
 use mathlib.Core.Bool.{Bool, true, false}
 use mathlib.Core.List.{List, [], _∷_}
 use mathlib.Core.Logic.{_⊎_, inl, inr}
 use lib.Dec.{eqb}
 use Rattle.kit.specs.Choice.{when}
-use Rattle.kit.proofs.Choice.{yes, no, cases, never}
+use Rattle.kit.proofs.Choice.{yes}
 use Rattle.state.specs.declared.engine.Engine.{Engine}
 use Rattle.state.specs.declared.engine.ErrorBit.{ErrorBit}
 use Rattle.state.specs.declared.engine.ErrorBit.the-variants.{Clear, DmaIntErr, DmaSlvErr, DmaDecErr, SgIntErr, SgSlvErr, SgDecErr}
@@ -16,9 +16,7 @@ use Rattle.state.specs.declared.engine.Phase.the-variants.{Idle, Fetch, Move, U
 use Rattle.state.specs.State.{freshOf, wellFormedOf}
 use Rattle.state.specs.Bits.{errorBitOf}
 use Rattle.words.specs.EngineWords.{truth, phaseNumberOf, movingOf, wordsOf, steppedWordsOf, errorBitFrom, phaseFrom, settingsFrom, engineFrom, sameWords, illFormedOf, engineOf}
-use Rattle.words.specs.Spelling.{spelledOf, soundOf}
 use Rattle.words.proofs.Same.{same-equal, same-itself}
-use Rattle.words.proofs.Spelled.{same-truth, spelled-same, sound-spelled, sound-words}
 
 truth-back : (b : Bool) → eqb (truth b) 1 ≡ b
 truth-back true = refl
@@ -96,34 +94,3 @@ read-back w = go (sameWords w (wordsOf (engineFrom w))) refl
         → (wordsOf (when t (engineFrom w) (illFormedOf (settingsFrom w))) ≡ w) ⊎ (wellFormedOf (when t (engineFrom w) (illFormedOf (settingsFrom w))) ≡ false)
     go true e = inl (sym (same-equal w (wordsOf (engineFrom w)) e))
     go false e = inr refl
-
--- ---- the engine of any words, by the tests
-
-module _ (w : List ℕ) where
-  -- words that are spelled are those of the engine they spell, others of none
-  pub spelled-engine : {s : Engine} → spelledOf w ≡ true → s ≡ engineFrom w → s ≡ engineOf w
-  unfolding engineOf
-  spelled-engine e f = yes (illFormedOf (settingsFrom w)) (sym (spelled-same w) ∙ e) f
-
-  pub not-spelled : {s : Engine} → spelledOf w ≡ false → s ≡ illFormedOf (settingsFrom w) → s ≡ engineOf w
-  unfolding engineOf
-  not-spelled e f = no (engineFrom w) (sym (spelled-same w) ∙ e) f
-
-  pub engine-settings : engineOf w .settings ≡ settingsFrom w
-  unfolding engineOf
-  engine-settings = cases (λ (s : Engine). s .settings ≡ settingsFrom w) (sameWords w (wordsOf (engineFrom w))) (λ _. refl) (λ _. refl)
-
-  -- words that are sound spell their engine
-  pub sound-engine : soundOf w ≡ true → engineOf w ≡ engineFrom w
-  sound-engine e = sym (spelled-engine (sound-spelled w e .0) refl)
-
-  -- words are sound if their engine is well formed, and only then
-  pub sound-well-formed : soundOf w ≡ wellFormedOf (engineOf w)
-  sound-well-formed = same-truth (soundOf w) (wellFormedOf (engineOf w)) well (λ e. sound e (read-back w))
-    where
-      well : soundOf w ≡ true → wellFormedOf (engineOf w) ≡ true
-      well e = ap (λ (s : Engine). wellFormedOf s) (sound-engine e) ∙ sound-spelled w e .1
-
-      sound : wellFormedOf (engineOf w) ≡ true → (wordsOf (engineOf w) ≡ w) ⊎ (wellFormedOf (engineOf w) ≡ false) → soundOf w ≡ true
-      sound e (inl back) = subst (λ (l : List ℕ). soundOf l ≡ true) back (sound-words (engineOf w) e)
-      sound e (inr ill) = absurd (never (sym ill ∙ e))

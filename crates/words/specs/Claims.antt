@@ -8,8 +8,7 @@ use lib.ListN.{replicate}
 use Rattle.kit.specs.declared.settings.Settings.{Settings}
 use Rattle.state.specs.declared.engine.Engine.{Engine}
 use Rattle.state.specs.State.{freshOf, wellFormedOf}
-use Rattle.words.specs.EngineWords.{wordsOf, engineFrom, sameWords, engineOf}
-use Rattle.words.specs.Spelling.{spelledOf, soundOf}
+use Rattle.words.specs.EngineWords.{wordsOf, engineOf}
 
 pub record Words : Type 0 where
   -- what is stored reads back as the same engine, so two engines have different words
@@ -19,6 +18,3 @@ pub record Words : Type 0 where
   pub words-back : (w : List ℕ) → (wordsOf (engineOf w) ≡ w) ⊎ (wellFormedOf (engineOf w) ≡ false)
   -- a fresh engine's words are its settings and zeros
   pub fresh-engine : (settings : Settings) → wordsOf (freshOf settings) ≡ settings .width ∷ settings .beats ∷ replicate 18 0
-  -- which words are an engine's, and which a well-formed one's, told word by word
-  pub spelled : (w : List ℕ) → spelledOf w ≡ sameWords w (wordsOf (engineFrom w))
-  pub sound : (w : List ℕ) → soundOf w ≡ wellFormedOf (engineOf w)

@@ -1,3 +1,2 @@
 pub mod EngineWords
-pub mod Spelling
 pub mod Claims

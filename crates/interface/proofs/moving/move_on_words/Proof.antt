@@ -8,7 +8,7 @@ use Rattle.kit.specs.declared.settings.Settings.{Settings}
 use Rattle.state.specs.declared.engine.Transfer.{Transfer}
 use Rattle.state.specs.State.{transferFits}
 use Rattle.steps.specs.Claims.{Bytes}
-use Rattle.words.proofs.Midst.{midst}
+use Rattle.spelling.proofs.Midst.{midst}
 use Rattle.interface.proofs.MovedWords.{Judged, judged, nothing, advanced, sum-fits, moved-left}
 use borrow.Author.Needs.{needs}
 use Rattle.interface.proofs.moving.move_on_words.Statement.{statement}

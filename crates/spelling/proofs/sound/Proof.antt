@@ -3,10 +3,10 @@ use mathlib.Core.Path.{ap, ap₂}
 use mathlib.Core.Bool.{Bool, _&&_}
 use lib.Dec.{leb}
 use Rattle.kit.specs.Limits.{mostBytes}
 use Rattle.words.specs.EngineWords.{word}
 use borrow.Author.Needs.{needs}
-use Rattle.words.proofs.spelling.sound.Statement.{statement}
-use Rattle.words.proofs.spelling.sound.Tie as tie
+use Rattle.spelling.proofs.sound.Statement.{statement}
+use Rattle.spelling.proofs.sound.Tie as tie
 
 returns : tie.Need-returns
 returns c =

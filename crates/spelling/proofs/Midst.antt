@@ -12,10 +12,10 @@ use Rattle.state.specs.declared.engine.Phase.{Phase}
 use Rattle.state.specs.declared.engine.Phase.the-variants.{Move}
 use Rattle.state.specs.State.{phaseFits, transferFits, wellFormedOf, withPhase}
 use Rattle.state.proofs.WellFormed.{parts}
 use Rattle.words.specs.EngineWords.{word, wordsOf, phaseFrom, transferFrom, engineFrom, engineOf}
-use Rattle.words.specs.Spelling.{twentyOf, truthsOf, alignedOf, fitsOf, bitListedOf, phaseListedOf, stillOf, phaseSoundOf, soundOf, settledOf, movesOf}
-use Rattle.words.proofs.Spelled.{apart, join, kept, sound-spelled}
-use Rattle.words.proofs.Engines.{sound-engine}
+use Rattle.spelling.specs.Spelling.{twentyOf, truthsOf, alignedOf, fitsOf, bitListedOf, phaseListedOf, stillOf, phaseSoundOf, soundOf, settledOf, movesOf}
+use Rattle.spelling.proofs.Listed.{apart, join, kept, sound-spelled}
+use Rattle.spelling.proofs.Engines.{sound-engine}
 
 pub record Midst (w : List ℕ) : Type 0 where
   pub held : engineOf w ≡ engineFrom w

@@ -1,12 +1,12 @@
 // include/belikumba.h, "Engine": which numbers are an engine's words, and which are those of a well-formed one. They are judged
 // as they stand: an engine made of them and stored again to be compared would cost as much as a step.
-use crate::engine_words::control;
-use crate::engine_words::phase;
-use crate::engine_words::pointers;
-use crate::engine_words::settings;
-use crate::engine_words::simple;
-use crate::engine_words::status;
-use crate::engine_words::transfer;
+use words::engine_words::control;
+use words::engine_words::phase;
+use words::engine_words::pointers;
+use words::engine_words::settings;
+use words::engine_words::simple;
+use words::engine_words::status;
+use words::engine_words::transfer;
 use kit::limits::ADDRESS_END;
 use kit::limits::MOST_BYTES;
 use kit::settings::Settings;
@@ -14,8 +14,8 @@ use state::engine::Engine;
 use state::engine::Pointers;
 use state::engine::fresh;
 ghost use mathlib.Core.Path.{_≡_};
 ghost use Rattle.words.specs.EngineWords.{illFormedOf, engineOf};
-ghost use Rattle.words.specs.Spelling.{twentyOf, truthsOf, bitListedOf, phaseListedOf, stillOf, spelledOf, alignedOf, insideOf, fitsOf, phaseSoundOf, soundOf, settledOf, movesOf};
+ghost use Rattle.spelling.specs.Spelling.{twentyOf, truthsOf, bitListedOf, phaseListedOf, stillOf, spelledOf, alignedOf, insideOf, fitsOf, phaseSoundOf, soundOf, settledOf, movesOf};
 
 // The compiler knows that there are twenty words, and drops the test; the contracts know it by the test alone.
 fn twenty(words: &[u32]) -> bool

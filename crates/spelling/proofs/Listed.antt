@@ -22,9 +22,9 @@ use Rattle.state.specs.declared.engine.Transfer.{Transfer}
 use Rattle.state.specs.State.{errorSetOf, busyOf, aligned, transferFits, phaseFits, wellFormedOf, withPhase}
 use Rattle.state.specs.Bits.{errorBitOf}
 use Rattle.state.proofs.WellFormed.{joined, parts, not-both}
 use Rattle.words.specs.EngineWords.{word, truth, phaseNumberOf, none, movingOf, wordsOf, errorBitFrom, phaseFrom, pointersFrom, transferFrom, engineFrom, sameWords}
-use Rattle.words.specs.Spelling.{twentyOf, truthsOf, bitListedOf, phaseListedOf, stillOf, spelledOf, alignedOf, insideOf, fitsOf, phaseSoundOf, soundOf}
+use Rattle.spelling.specs.Spelling.{twentyOf, truthsOf, bitListedOf, phaseListedOf, stillOf, spelledOf, alignedOf, insideOf, fitsOf, phaseSoundOf, soundOf}
 use Rattle.words.proofs.Same.{same-equal, same-itself}
 
 -- ---- tests joined
 

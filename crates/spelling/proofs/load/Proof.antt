@@ -2,11 +2,11 @@ use denote.Ref.{now}
 use mathlib.Core.Path.{sym, ap, _∙_}
 use borrow.Author.Tests.{not-true, not-false}
 use Rattle.state.specs.declared.engine.Transfer.{Transfer}
 use Rattle.words.specs.EngineWords.{word, phaseFrom, illFormedOf}
-use Rattle.words.proofs.Engines.{spelled-engine, not-spelled}
+use Rattle.spelling.proofs.Engines.{spelled-engine, not-spelled}
 use borrow.Author.Needs.{needs}
-use Rattle.words.proofs.spelling.load.Statement.{statement}
-use Rattle.words.proofs.spelling.load.Tie as tie
+use Rattle.spelling.proofs.load.Statement.{statement}
+use Rattle.spelling.proofs.load.Tie as tie
 
 returns : tie.Need-returns
 returns c =

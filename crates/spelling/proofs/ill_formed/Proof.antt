@@ -1,6 +1,6 @@
 use borrow.Author.Needs.{needs}
-use Rattle.words.proofs.spelling.ill_formed.Statement.{statement}
-use Rattle.words.proofs.spelling.ill_formed.Tie as tie
+use Rattle.spelling.proofs.ill_formed.Statement.{statement}
+use Rattle.spelling.proofs.ill_formed.Tie as tie
 
 fresh-requires : tie.Need-fresh-requires
 fresh-requires c κs = search needs

@@ -2,10 +2,10 @@ use denote.Ref.{now}
 use mathlib.Core.Path.{ap, ap₂}
 use mathlib.Core.Bool.{Bool, _&&_, _||_}
 use lib.Dec.{eqb}
 use Rattle.words.specs.EngineWords.{word}
 use borrow.Author.Needs.{needs}
-use Rattle.words.proofs.spelling.spelled.Statement.{statement}
-use Rattle.words.proofs.spelling.spelled.Tie as tie
+use Rattle.spelling.proofs.spelled.Statement.{statement}
+use Rattle.spelling.proofs.spelled.Tie as tie
 
 returns : tie.Need-returns
 returns c =

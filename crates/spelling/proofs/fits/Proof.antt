@@ -3,10 +3,10 @@ use mathlib.Core.Path.{ap, ap₂}
 use mathlib.Core.Bool.{Bool, _&&_}
 use lib.Dec.{ltb, leb}
 use Rattle.kit.specs.Limits.{mostBytes}
 use Rattle.words.specs.EngineWords.{word}
 use borrow.Author.Needs.{needs}
-use Rattle.words.proofs.spelling.fits.Statement.{statement}
-use Rattle.words.proofs.spelling.fits.Tie as tie
+use Rattle.spelling.proofs.fits.Statement.{statement}
+use Rattle.spelling.proofs.fits.Tie as tie
 
 element-copy-out-moved : tie.Need-element-copy-out-moved
 element-copy-out-moved c = search needs

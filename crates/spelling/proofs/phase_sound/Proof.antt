@@ -4,10 +4,10 @@ use mathlib.Core.Bool.{Bool, _&&_}
 use lib.Dec.{eqb}
 use borrow.Author.Tests.{eq-eqb, ne-eqb}
 use Rattle.kit.proofs.Choice.{yes, no}
 use Rattle.words.specs.EngineWords.{word}
 use borrow.Author.Needs.{needs}
-use Rattle.words.proofs.spelling.phase_sound.Statement.{statement}
-use Rattle.words.proofs.spelling.phase_sound.Tie as tie
+use Rattle.spelling.proofs.phase_sound.Statement.{statement}
+use Rattle.spelling.proofs.phase_sound.Tie as tie
 
 returns : tie.Need-returns
 returns c =

@@ -1,8 +1,8 @@
 use mathlib.Core.Path.{ap₂}
 use mathlib.Core.Bool.{_&&_}
 use borrow.Author.Needs.{needs}
-use Rattle.words.proofs.spelling.moves.Statement.{statement}
-use Rattle.words.proofs.spelling.moves.Tie as tie
+use Rattle.spelling.proofs.moves.Statement.{statement}
+use Rattle.spelling.proofs.moves.Tie as tie
 
 twenty-requires : tie.Need-twenty-requires
 twenty-requires c κs = search needs

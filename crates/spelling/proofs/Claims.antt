@@ -1,0 +1,10 @@
+-- The claims of specs/Claims.antt.
+use Rattle.spelling.specs.Claims.{Spelling}
+use Rattle.spelling.proofs.Listed.{spelled-same}
+use Rattle.spelling.proofs.Engines.{sound-well-formed}
+
+pub spelling : Spelling
+spelling = record {
+  spelled = spelled-same;
+  sound = sound-well-formed;
+}

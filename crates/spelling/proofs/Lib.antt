@@ -1,0 +1,4 @@
+pub mod Listed
+pub mod Engines
+pub mod Midst
+pub mod Claims

@@ -37,18 +37,18 @@ fn accept(engine: Engine, descriptor: Descriptor) -> Advanced
     }
     let start = start_transfer(descriptor.source, descriptor.destination, descriptor.count);
     let phase = phase_after_fetch(start);
-    let pointers = engine.pointers;
     let pointers = Pointers {
         heldnext: descriptor.next,
-        ..pointers
+        ..engine.pointers
     };
-    let event = Event::Fetch(pointers.current);
-    let engine = Engine {
-        pointers,
-        phase,
-        ..engine
-    };
-    Advanced { event, engine }
+    Advanced {
+        event: Event::Fetch(engine.pointers.current),
+        engine: Engine {
+            pointers,
+            phase,
+            ..engine
+        },
+    }
 }
 
 pub fn fetch(engine: Engine, memory: &[u8], windows: &[u32]) -> Advanced

@@ -12,11 +12,10 @@ ghost use Rattle.steps.specs.Step.{stopOnErrorOf, haltOf};
 pub fn stop_on_error(engine: Engine, bit: ErrorBit) -> Engine
     ensures { λ r. ⌜ r ≡ stopOnErrorOf engine bit ⌝ }
 {
-    let status = engine.status;
     let status = Status {
         fault: bit,
+        ioc: engine.status.ioc,
         err: true,
-        ..status
     };
     Engine {
         status,
@@ -29,10 +28,11 @@ pub fn stop_on_error(engine: Engine, bit: ErrorBit) -> Engine
 pub fn halt(engine: Engine, bit: ErrorBit) -> Advanced
     ensures { λ r. ⌜ r ≡ haltOf engine bit ⌝ }
 {
-    let event = Event::Halt {
-        current: engine.pointers.current,
-        bit: bit_number(bit),
-    };
-    let engine = stop_on_error(engine, bit);
-    Advanced { event, engine }
+    Advanced {
+        event: Event::Halt {
+            current: engine.pointers.current,
+            bit: bit_number(bit),
+        },
+        engine: stop_on_error(engine, bit),
+    }
 }

@@ -11,7 +11,6 @@ use state::engine::Engine;
 use state::engine::ErrorBit;
 use state::engine::Outcome;
 use state::engine::Phase;
-use state::engine::Status;
 use state::engine::Transfer;
 use state::engine::bit_number;
 ghost use mathlib.Core.Path.{_≡_};
@@ -21,41 +20,23 @@ ghost use Rattle.kit.specs.Limits.{mostBytes};
 ghost use Rattle.kit.specs.Settings.{legalOf};
 ghost use Rattle.memory.specs.Windows.{windowsOf};
 ghost use Rattle.state.specs.State.{transferFits};
-ghost use Rattle.steps.specs.Step.{advanceSeen, finishTransferOf, continueOrFinishOf, afterBurstOf, afterFaultOf, moveBurstOf};
+ghost use Rattle.steps.specs.Step.{advanceSeen, continueOrFinishOf, afterBurstOf, afterFaultOf, moveBurstOf};
 
-// After the last burst: chain mode goes to update, simple mode ends in this same step.
-fn finish_transfer(engine: Engine) -> Engine
-    ensures { λ r. ⌜ r ≡ finishTransferOf engine ⌝ }
-{
-    if engine.control.sgmode {
-        return Engine {
-            phase: Phase::Update(Outcome::Complete),
-            ..engine
-        };
-    }
-    let status = engine.status;
-    let status = Status {
-        ioc: true,
-        ..status
-    };
-    Engine {
-        status,
-        phase: Phase::Idle,
-        ..engine
-    }
-}
-
-pub fn continue_or_finish(engine: Engine, transfer: Transfer, moved: u32) -> Engine
+// The state after `moved` bytes of the transfer. After the last burst chain mode goes to update, and simple mode ends in
+// this same step.
+pub fn continue_or_finish(mut engine: Engine, transfer: Transfer, moved: u32) -> Engine
     ensures { λ r. ⌜ r ≡ continueOrFinishOf engine transfer moved ⌝ }
 {
+    let mut phase = Phase::Move(Transfer { moved, ..transfer });
     if moved == transfer.total {
-        return finish_transfer(engine);
+        if engine.control.sgmode {
+            phase = Phase::Update(Outcome::Complete);
+        } else {
+            engine.status.ioc = true;
+            phase = Phase::Idle;
+        }
     }
-    let transfer = Transfer { moved, ..transfer };
-    Engine {
-        phase: Phase::Move(transfer),
-        ..engine
-    }
+    Engine { phase, ..engine }
 }
 
 // A burst that memory took: the event, and the state after it.
@@ -63,9 +44,10 @@ fn after_burst(engine: Engine, transfer: Transfer, start: u32, bytes: u32) -> Ad
     requires { ⌜ transfer .moved + bytes ≤ mostBytes ⌝ }
     ensures { λ r. ⌜ r ≡ afterBurstOf engine transfer start bytes ⌝ }
 {
-    let event = Event::Move(Burst { start, bytes });
-    let engine = continue_or_finish(engine, transfer, transfer.moved + bytes);
-    Advanced { event, engine }
+    Advanced {
+        event: Event::Move(Burst { start, bytes }),
+        engine: continue_or_finish(engine, transfer, transfer.moved + bytes),
+    }
 }
 
 // A burst that memory refused: chain mode goes to update, simple mode halts.
@@ -77,14 +59,16 @@ fn after_fault(engine: Engine, destination: u32, outcome: Outcome, bit: ErrorBit
         bit: bit_number(bit),
     };
     if engine.control.sgmode {
-        let engine = Engine {
-            phase: Phase::Update(outcome),
-            ..engine
+        let phase = Phase::Update(outcome);
+        return Advanced {
+            event,
+            engine: Engine { phase, ..engine },
         };
-        return Advanced { event, engine };
     }
-    let engine = stop_on_error(engine, bit);
-    Advanced { event, engine }
+    Advanced {
+        event,
+        engine: stop_on_error(engine, bit),
+    }
 }
 
 // The burst's source and destination bytes are judged together; nothing is written unless both are in order.

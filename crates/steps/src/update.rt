@@ -11,8 +11,6 @@ use state::engine::Engine;
 use state::engine::ErrorBit;
 use state::engine::Outcome;
 use state::engine::Phase;
-use state::engine::Pointers;
-use state::engine::Status;
 ghost use mathlib.Core.Path.{_≡_};
 ghost use Prim.Native.Nat.{_%_};
 ghost use Rattle.memory.specs.Windows.{windowsOf};
@@ -32,37 +30,18 @@ fn status_word(outcome: Outcome) -> u32
 }
 
 // A good update: IOC_Irq, next is the held next; at the tail idle, else on to the next descriptor.
-fn complete_descriptor(engine: Engine) -> Engine
+fn complete_descriptor(mut engine: Engine) -> Engine
     ensures { λ r. ⌜ r ≡ completeDescriptorOf engine ⌝ }
 {
-    let status = engine.status;
-    let status = Status {
-        ioc: true,
-        ..status
-    };
-    let pointers = engine.pointers;
-    let pointers = Pointers {
-        next: pointers.heldnext,
-        ..pointers
-    };
-    if pointers.current == pointers.tail {
-        return Engine {
-            status,
-            pointers,
-            phase: Phase::Idle,
-            ..engine
-        };
+    let held = engine.pointers.heldnext;
+    let mut phase = Phase::Idle;
+    engine.status.ioc = true;
+    engine.pointers.next = held;
+    if engine.pointers.current != engine.pointers.tail {
+        engine.pointers.current = held;
+        phase = Phase::Fetch;
     }
-    let pointers = Pointers {
-        current: pointers.heldnext,
-        ..pointers
-    };
-    Engine {
-        status,
-        pointers,
-        phase: Phase::Fetch,
-        ..engine
-    }
+    Engine { phase, ..engine }
 }
 
 fn retire(engine: Engine, outcome: Outcome) -> Engine
@@ -79,12 +58,13 @@ fn retire(engine: Engine, outcome: Outcome) -> Engine
 fn after_update(engine: Engine, outcome: Outcome, word: u32) -> Advanced
     ensures { λ r. ⌜ r ≡ afterUpdateOf engine outcome word ⌝ }
 {
-    let event = Event::Update {
-        current: engine.pointers.current,
-        word,
-    };
-    let engine = retire(engine, outcome);
-    Advanced { event, engine }
+    Advanced {
+        event: Event::Update {
+            current: engine.pointers.current,
+            word,
+        },
+        engine: retire(engine, outcome),
+    }
 }
 
 pub fn update(engine: Engine, outcome: Outcome, memory: &mut [u8], windows: &[u32]) -> Advanced

@@ -16,10 +16,10 @@ returns c = yes _ (c .before .if1 .taken) (c .halt .ensures)
 returns-2 : tie.Need-returns-2
 unfolding acceptOf
 returns-2 c =
-    let a = c .before .before .before .before .before .before .before .before .args in
-    no _ (c .before .before .before .before .before .before .before .if1 .left)
+    let a = c .before .before .before .before .before .before .before .args in
+    no _ (c .before .before .before .before .before .before .if1 .left)
     (ap {B = Advanced} (λ (p : Phase). record { event = Fetch (a .engine .pointers .current); engine = withPhase (withHeldnext (a .engine) (a .descriptor .next)) p })
-    (c .before .before .before .before .before .phase-after-fetch .ensures ∙ ap phaseAfterFetchOf (c .before .before .before .before .before .before .start-transfer .ensures)))
+    (c .before .before .before .before .phase-after-fetch .ensures ∙ ap phaseAfterFetchOf (c .before .before .before .before .before .start-transfer .ensures)))
 
 pub accept-spec : {M : Type 1} → statement M
 accept-spec =

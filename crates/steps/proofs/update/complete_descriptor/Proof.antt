@@ -1,16 +1,17 @@
-use mathlib.Core.Path.{refl}
+use mathlib.Core.Path.{ap₂}
+use mathlib.Core.Logic.{⊎-elim}
 use borrow.Author.Tests.{eq-eqb, ne-eqb}
 use Rattle.kit.proofs.Choice.{yes, no}
+use Rattle.state.specs.State.{withPhase}
 use Rattle.steps.proofs.update.complete_descriptor.Statement.{statement}
 use Rattle.steps.proofs.update.complete_descriptor.Tie as tie
 
 returns : tie.Need-returns
-returns c = yes _ (eq-eqb _ _ (c .before .before .before .if1 .taken)) refl
-
-returns-2 : tie.Need-returns-2
-returns-2 c = no _ (ne-eqb _ _ (c .before .before .before .if1 .left)) refl
+returns c =
+    ⊎-elim
+    (λ w. no _ (ne-eqb _ _ (w .0 .taken)) (ap₂ withPhase (w .2) (w .3)))
+    (λ w. yes _ (eq-eqb _ _ (w .0 .left)) (ap₂ withPhase (w .1) (w .2)))
+    (c .before .before .before .before .before .if1 .came)
 
 pub complete-descriptor-spec : {M : Type 1} → statement M
-complete-descriptor-spec =
-    tie.close
-    (tie.spec returns returns-2)
+complete-descriptor-spec = tie.close (tie.spec returns)

@@ -23,6 +23,7 @@ use state::engine::Phase;
 use state::engine::Pointers;
 use state::engine::Simple;
 use state::engine::Status;
+use state::engine::Transfer;
 use state::engine::busy;
 use state::engine::error_set;
 use state::engine::fresh;
@@ -32,6 +33,7 @@ ghost use mathlib.Core.Bool.{not};
 ghost use Rattle.kit.specs.Answer.{numberOf};
 ghost use Rattle.kit.specs.Choice.{when, both as bothOf};
 ghost use Rattle.state.specs.declared.descriptor.Start.the-variants.{Internal};
+ghost use Rattle.state.specs.declared.engine.Phase.the-variants.{Fetch, Move};
 ghost use Rattle.state.specs.State.{errorSetOf};
 ghost use Rattle.registers.specs.Write.{done as doneOf, ignored as ignoredOf, differ as differOf, builtOf, controlFrom, clearedOf, startedPhase, startedStatus, writeControlOf, writeStatusOf, writeCurrentOf, writeTailOf, writeSourceOf, writeDestinationOf, writeCountOf, registerWrittenOf, writeOf, writeSeen};
 
@@ -91,10 +93,18 @@ fn pick(chosen: bool, first: u32, second: u32) -> u32
     if chosen { first } else { second }
 }
 
-fn pick_phase(chosen: bool, first: Phase, second: Phase) -> Phase
-    ensures { λ r. ⌜ r ≡ when chosen first second ⌝ }
+// A phase is made on the way that takes it: a choice between two of them would be one between two places in memory, and keep
+// the whole state there.
+fn fetch_if(chosen: bool, phase: Phase) -> Phase
+    ensures { λ r. ⌜ r ≡ when chosen Fetch phase ⌝ }
 {
-    if chosen { first } else { second }
+    if chosen { Phase::Fetch } else { phase }
+}
+
+fn move_if(chosen: bool, transfer: Transfer, phase: Phase) -> Phase
+    ensures { λ r. ⌜ r ≡ when chosen (Move transfer) phase ⌝ }
+{
+    if chosen { Phase::Move(transfer) } else { phase }
 }
 
 // The one place that builds a state.
@@ -246,7 +256,7 @@ fn write_tail(engine: Engine, value: u32) -> Written
         status,
         point_tail(allowed, starts, engine.pointers, pointer(value)),
         engine.simple,
-        pick_phase(starts, Phase::Fetch, phase),
+        fetch_if(starts, phase),
     )
 }
 
@@ -296,7 +306,7 @@ fn start_phase(allowed: bool, start: Start, phase: Phase) -> Phase
     ensures { λ r. ⌜ r ≡ when allowed (startedPhase start phase) phase ⌝ }
 {
     match start {
-        Start::Moves(transfer) => pick_phase(allowed, Phase::Move(transfer), phase),
+        Start::Moves(transfer) => move_if(allowed, transfer, phase),
         Start::Internal => phase,
     }
 }

@@ -29,8 +29,8 @@ pointer-requires c κs = search needs
 point-tail-requires : tie.Need-point-tail-requires
 point-tail-requires c κs = search needs
 
-pick-phase-requires : tie.Need-pick-phase-requires
-pick-phase-requires c κs = search needs
+fetch-if-requires : tie.Need-fetch-if-requires
+fetch-if-requires c κs = search needs
 
 build-requires : tie.Need-build-requires
 build-requires c κs = search needs
@@ -44,11 +44,11 @@ returns c =
     let x = p .before .pointer in
     let n = numberOf (g .gate .result) in
     c .build .ensures
-    ∙ (λ i. ignored n (withPhase (withPointers s (p .point-tail .ensures i)) (c .before .pick-phase .ensures i)))
+    ∙ (λ i. ignored n (withPhase (withPointers s (p .point-tail .ensures i)) (c .before .fetch-if .ensures i)))
     ∙ ap (λ (starts : Bool). ignored n (pointed s (x .result) (b .before .allows .result) starts)) (g .before .both .ensures)
     ∙ guarded s (λ (t : Bool). pointed s (x .result) t (both t (not (b .busy .result)))) refl {barred = not (s .control .sgmode)} refl (g .gate .ensures) (b .before .allows .ensures)
     ∙ ap (guardOf s (not (s .control .sgmode))) (tail-pointed s (x .result) (b .busy .result)
     ∙ (λ i. when (b .busy .ensures i) (withTail s (x .ensures i)) (withPhase (withCurrent (withTail s (x .ensures i)) (s .pointers .next)) Fetch)))
 
 pub write-tail-spec : {M : Type 1} → statement M
-write-tail-spec = tie.close (tie.spec allows-requires busy-requires both-requires gate-requires pointer-requires point-tail-requires pick-phase-requires build-requires returns)
+write-tail-spec = tie.close (tie.spec allows-requires busy-requires both-requires gate-requires pointer-requires point-tail-requires fetch-if-requires build-requires returns)

@@ -172,6 +172,37 @@ fn put_billions(
     next + 9
 }
 
+// Any number's digits from `at` on and the closing byte. It is apart from `put_number`, which most numbers go through, since
+// they are below a million.
+fn put_long(
+    leading: &[u32; 1000],
+    padded: &[u32; 1000],
+    out: &mut [u8],
+    at: usize,
+    value: u64,
+    closing: u8,
+) -> usize
+    requires { ⌜ Tables (now leading) (now padded) ⌝ }
+    requires { ⌜ (at + 21 ≤ length (now out)) × (1000 ≤ value) ⌝ }
+    ensures { λ r. ⌜ Puts (now (out .entry)) (now (out .exit)) at r (digitsOf value ++ (closing ∷ [])) ⌝ }
+{
+    if value < 1000000000 {
+        let next = put_thousands(leading, padded, out, at, (value / 1000) as u32);
+        put_three(leading, padded, out, next, (value % 1000) as u32, closing);
+        return next + 4;
+    }
+    let next = put_billions(leading, padded, out, at, value / 1000000000);
+    put_nine(
+        leading,
+        padded,
+        out,
+        next,
+        (value % 1000000000) as u32,
+        closing,
+    );
+    next + 10
+}
+
 // The number's digits from `at` on and the closing byte; the result is the place past it.
 pub fn put_number(
     leading: &[u32; 1000],
@@ -188,19 +219,10 @@ pub fn put_number(
     if value < 1000 {
         return put_short(leading, padded, out, at, value as u32, closing);
     }
-    if value < 1000000000 {
-        let next = put_thousands(leading, padded, out, at, (value / 1000) as u32);
+    if value < 1000000 {
+        let next = put_leading(leading, padded, out, at, (value / 1000) as u32);
         put_three(leading, padded, out, next, (value % 1000) as u32, closing);
         return next + 4;
     }
-    let next = put_billions(leading, padded, out, at, value / 1000000000);
-    put_nine(
-        leading,
-        padded,
-        out,
-        next,
-        (value % 1000000000) as u32,
-        closing,
-    );
-    next + 10
+    put_long(leading, padded, out, at, value, closing)
 }

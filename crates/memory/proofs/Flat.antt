@@ -7,11 +7,12 @@ use native.Mathlib.Omega.{arith}
 use native.Mathlib.Numerals.{add-one, add-two}
 use lib.ListN.{length, getD, drop, length-drop}
 use lib.Seq.{drop-cons}
+use Rattle.kit.specs.Choice.{either}
 use Rattle.kit.proofs.Choice.{yes, no}
 use Rattle.memory.specs.declared.window.Window.{Window}
 use Rattle.memory.specs.Windows.{windowsOf}
-use Rattle.memory.specs.Interval.{touchesOf}
-use Rattle.memory.proofs.Groups.{hit}
+use Rattle.memory.specs.Interval.{touchesOf, hit}
+use Rattle.memory.proofs.Groups.{swap}
 
 -- the window whose start stands at place i
 abbrev pub windowAt : List ℕ → ℕ → Window
@@ -27,15 +28,28 @@ too-few [] h = refl
 too-few (x ∷ []) h = refl
 too-few (x ∷ y ∷ l) h = absurd (omega arith)
 
--- no window is left
-pub hit-end : (l : List ℕ) (i a e : ℕ) → length l ≤ i + 1 → hit (windowsOf (drop i l)) a e ≡ false
-hit-end l i a e h = ap (λ (ws : List Window). hit ws a e) (too-few (drop i l) (simp length-drop (omega arith)))
+-- ---- two groups held against the windows from place i on
 
--- the window at i touches the group
-pub hit-here : (l : List ℕ) (i a e : ℕ) → i + 1 < length l → touchesOf (windowAt l i) a e ≡ true → hit (windowsOf (drop i l)) a e ≡ true
-hit-here l i a e h t = ap (λ (ws : List Window). hit ws a e) (windows-cons l i h) ∙ sym (yes _ t refl)
+module _ (l : List ℕ) (i a e b g : ℕ) where
+  pub pair-end : length l ≤ i + 1 → either (hit (windowsOf (drop i l)) a e) (hit (windowsOf (drop i l)) b g) ≡ false
+  pair-end h = ap (λ (ws : List Window). either (hit ws a e) (hit ws b g)) (too-few (drop i l) (simp length-drop (omega arith)))
 
--- it does not: what is left decides
-pub hit-on : (l : List ℕ) (i a e : ℕ) → i + 1 < length l → touchesOf (windowAt l i) a e ≡ false
-    → hit (windowsOf (drop (i + 2) l)) a e ≡ hit (windowsOf (drop i l)) a e
-hit-on l i a e h t = no _ t refl ∙ sym (ap (λ (ws : List Window). hit ws a e) (windows-cons l i h))
+  pair-cons : i + 1 < length l
+      → either (hit (windowsOf (drop i l)) a e) (hit (windowsOf (drop i l)) b g)
+      ≡ either (either (touchesOf (windowAt l i) a e) (touchesOf (windowAt l i) b g))
+      (either (hit (windowsOf (drop (i + 2) l)) a e) (hit (windowsOf (drop (i + 2) l)) b g))
+  pair-cons h =
+      ap (λ (ws : List Window). either (hit ws a e) (hit ws b g)) (windows-cons l i h)
+      ∙ swap (touchesOf (windowAt l i) a e) (hit (windowsOf (drop (i + 2) l)) a e) (touchesOf (windowAt l i) b g)
+      (hit (windowsOf (drop (i + 2) l)) b g)
+
+  -- the window at i touches one of them
+  pub pair-here : i + 1 < length l → either (touchesOf (windowAt l i) a e) (touchesOf (windowAt l i) b g) ≡ true
+      → either (hit (windowsOf (drop i l)) a e) (hit (windowsOf (drop i l)) b g) ≡ true
+  pair-here h t = pair-cons h ∙ sym (yes _ t refl)
+
+  -- it does not: what is left decides
+  pub pair-on : i + 1 < length l → either (touchesOf (windowAt l i) a e) (touchesOf (windowAt l i) b g) ≡ false
+      → either (hit (windowsOf (drop (i + 2) l)) a e) (hit (windowsOf (drop (i + 2) l)) b g)
+      ≡ either (hit (windowsOf (drop i l)) a e) (hit (windowsOf (drop i l)) b g)
+  pair-on h t = no _ t refl ∙ sym (pair-cons h)

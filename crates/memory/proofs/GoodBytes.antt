@@ -13,11 +13,11 @@ use Rattle.kit.proofs.Choice.{yes, no, decide, never}
 use Rattle.memory.specs.declared.window.Window.{Window}
 use Rattle.memory.specs.declared.verdict.Verdict.the-variants.{Okay}
 use Rattle.memory.specs.Windows.{windowsOf}
-use Rattle.memory.specs.Interval.{touchesOf}
+use Rattle.memory.specs.Interval.{touchesOf, hit}
 use Rattle.memory.specs.Verdict.{worse, groupOf, pairOf}
 use Rattle.memory.specs.Good.{nearerEnd, goodEnd, goodBytes}
 use Rattle.memory.proofs.Touch.{Touch, touch, touch-test}
-use Rattle.memory.proofs.Groups.{hit, group-none, group-okay}
+use Rattle.memory.proofs.Groups.{group-none, group-okay}
 use Rattle.memory.proofs.Flat.{windowAt, windows-cons, too-few}
 
 -- ---- one window

@@ -15,14 +15,9 @@ use Rattle.memory.specs.declared.window.Window.{Window}
 use Rattle.memory.specs.declared.verdict.Verdict.the-variants.{Okay, Slave, Decode}
 use Rattle.memory.specs.Windows.{sick, inside}
 use Rattle.memory.specs.Verdict.{worse, byteOf, groupOf, pairOf}
-use Rattle.memory.specs.Interval.{touchesOf}
+use Rattle.memory.specs.Interval.{touchesOf, hit}
 use Rattle.memory.proofs.Touch.{touches-one, touches-more}
 use Rattle.memory.proofs.Verdicts.{verdictBy, worse-by, worse-right-okay, worse-okay, okay-no-decode}
-
--- one of the windows touches the bytes from a up to e
-abbrev pub hit : List Window → ℕ → ℕ → Bool
-hit [] a e = false
-hit (w ∷ more) a e = either (touchesOf w a e) (hit more a e)
 
 hit-one : (ws : List Window) (a : ℕ) → sick ws a ≡ hit ws a (suc a)
 unfolding sick
@@ -30,11 +25,15 @@ hit-one [] a = refl
 hit-one (w ∷ ws) a =
     ap (λ (t : Bool). either t (sick ws a)) (touches-one w a) ∙ ap (λ (t : Bool). either (touchesOf w a (suc a)) t) (hit-one ws a)
 
-swap : (t u v z : Bool) → either (either t u) (either v z) ≡ either (either t v) (either u z)
+pub swap : (t u v z : Bool) → either (either t u) (either v z) ≡ either (either t v) (either u z)
 swap true u v z = refl
 swap false true true z = refl
 swap false true false z = refl
 swap false false v z = refl
+
+pub either-same : (t : Bool) → t ≡ either t t
+either-same true = refl
+either-same false = refl
 
 hit-more : (ws : List Window) (a e : ℕ) → suc a < e → hit ws a e ≡ either (sick ws a) (hit ws (suc a) e)
 unfolding sick
@@ -116,17 +115,13 @@ module _ (size : ℕ) (ws : List Window) (a b n : ℕ) where
   fit : a + n ≤ size → b + n ≤ size → either (ltb size (a + n)) (ltb size (b + n)) ≡ false
   fit f g = sym (no _ (le-ltb _ _ f) (sym (le-ltb _ _ g)))
 
-  pub pair-slave : 0 < n → a + n ≤ size → b + n ≤ size → (hit ws a (a + n) ≡ true) ⊎ (hit ws b (b + n) ≡ true)
+  pub pair-slave : 0 < n → a + n ≤ size → b + n ≤ size → either (hit ws a (a + n)) (hit ws b (b + n)) ≡ true
       → Slave ≡ pairOf size ws a b n
-  pair-slave h f g t = no _ (fit f g) (yes _ (one t) refl) ∙ sym (pair-ends h)
-    where
-      one : (hit ws a (a + n) ≡ true) ⊎ (hit ws b (b + n) ≡ true) → either (hit ws a (a + n)) (hit ws b (b + n)) ≡ true
-      one (inl e) = sym (yes _ e refl)
-      one (inr e) = sym (either-right (hit ws a (a + n)) (sym e))
+  pair-slave h f g t = no _ (fit f g) (yes _ t refl) ∙ sym (pair-ends h)
 
-  pub pair-okay : 0 < n → a + n ≤ size → b + n ≤ size → hit ws a (a + n) ≡ false → hit ws b (b + n) ≡ false
+  pub pair-okay : 0 < n → a + n ≤ size → b + n ≤ size → either (hit ws a (a + n)) (hit ws b (b + n)) ≡ false
       → Okay ≡ pairOf size ws a b n
-  pair-okay h f g s t = no _ (fit f g) (no _ (sym (no _ s (sym t))) refl) ∙ sym (pair-ends h)
+  pair-okay h f g t = no _ (fit f g) (no _ t refl) ∙ sym (pair-ends h)
 
   -- an OKAY of both says that both fit
   pub pair-okay-fits : pairOf size ws a b n ≡ Okay → 0 < n → (a + n ≤ size) × (b + n ≤ size)

@@ -2,7 +2,7 @@
 use mathlib.Core.Path.{_≡_, refl, sym}
 use mathlib.Core.Bool.{Bool, true, false}
 use mathlib.Core.Logic.{_⊎_, inl, inr}
-use Prim.Native.Nat.{ℕ, suc, _+_, _≤_, _<_}
+use Prim.Native.Nat.{ℕ, suc, _+_, _-_, _≤_, _<_}
 use native.Mathlib.Omega.{arith}
 use lib.Dec.{leb, ltb}
 use borrow.Author.Tests.{lt-ltb, le-leb, ltb-true, leb-true, leb-false}
@@ -80,3 +80,17 @@ module _ (w : Window) where
       same _ _
       (λ h. first-or-rest a e more (touch a e h) (decide (leb (w .start) a)))
       (λ h. whole a e more (either-cases (inside w a) (touchesOf w (suc a) e) h))
+
+  -- the same by how far the one start is above the other
+  pub touches-gaps : (a n : ℕ) → 0 < n → both (ltb (a - w .start) (w .length)) (ltb (w .start - a) n) ≡ touchesOf w a (a + n)
+  touches-gaps a n some =
+      same _ _
+      (λ h.
+      let t : a - w .start < w .length = ltb-true _ _ (both-left (ltb (a - w .start) (w .length)) (ltb (w .start - a) n) h) in
+      let u : w .start - a < n = ltb-true _ _ (both-right (ltb (a - w .start) (w .length)) (ltb (w .start - a) n) h) in
+      touch-test a (a + n) (record { starts = omega arith; ends = omega arith; holds = omega arith }))
+      (λ h.
+      let k : Touch a (a + n) = touch a (a + n) h in
+      let t : a - w .start < w .length = omega (arith, k .ends, k .holds) in
+      let u : w .start - a < n = omega (arith, k .starts, some) in
+      both-join (lt-ltb _ _ t) (lt-ltb _ _ u))

@@ -1,8 +1,12 @@
 // RULES.md, "Memory that answers badly": what memory answers for a group of bytes. A group is judged by its start and
 // length, with one look at each window: no work grows with the bytes, and no end is reckoned before it is known to fit.
 use crate::window::Window;
-use crate::window::touches;
+use crate::window::meets;
+use kit::logic::either;
 ghost use mathlib.Core.Path.{_≡_};
+ghost use Prim.Native.Nat.{_+_, _<_};
+ghost use Rattle.kit.specs.Choice.{either as eitherOf};
+ghost use Rattle.memory.specs.Interval.{hit};
 ghost use Rattle.memory.specs.Windows.{windowsOf};
 ghost use Rattle.memory.specs.Verdict.{groupOf, pairOf};
 
@@ -12,68 +16,66 @@ pub enum Verdict {
     Decode,
 }
 
+// Whether a window has one of the `bytes` bytes from `first` on or from `second` on. Both are asked of each window without a
+// branch between them: which windows start below a group is anyone's guess.
+fn any_meets(windows: &[u32], first: u32, second: u32, bytes: u32) -> bool
+    requires { ⌜ 0 < bytes ⌝ }
+    ensures { λ r. ⌜ r ≡ eitherOf (hit (windowsOf (now (windows .entry))) first (first + bytes)) (hit (windowsOf (now (windows .entry))) second (second + bytes)) ⌝ }
+{
+    let mut i = 0;
+    while i + 1 < windows.len() {
+        let window = Window {
+            start: windows[i],
+            length: windows[i + 1],
+        };
+        if either(meets(window, first, bytes), meets(window, second, bytes)) {
+            return true;
+        }
+        i += 2;
+    }
+    false
+}
+
 // The verdict of the `bytes` bytes from `start` on, in a memory of `size` bytes.
-pub fn judge(size: usize, windows: &[u32], start: u64, bytes: u64) -> Verdict
+pub fn judge(size: usize, windows: &[u32], start: u32, bytes: u32) -> Verdict
     ensures { λ r. ⌜ r ≡ groupOf size (windowsOf (now (windows .entry))) start bytes ⌝ }
 {
     if bytes == 0 {
         return Verdict::Okay;
     }
-    let size = size as u64;
-    if size < bytes {
+    let count = bytes as usize;
+    if size < count {
         return Verdict::Decode;
     }
-    if size - bytes < start {
+    if size - count < start as usize {
         return Verdict::Decode;
     }
-    let end = start + bytes;
-    let mut i = 0;
-    while i + 1 < windows.len() {
-        let window = Window {
-            start: windows[i],
-            length: windows[i + 1],
-        };
-        if touches(window, start, end) {
-            return Verdict::Slave;
-        }
-        i += 2;
+    if any_meets(windows, start, start, bytes) {
+        return Verdict::Slave;
     }
     Verdict::Okay
 }
 
 // The worse verdict of two groups of `bytes` bytes, from `first` and from `second` on: a move's source and destination.
-pub fn judge_pair(size: usize, windows: &[u32], first: u64, second: u64, bytes: u64) -> Verdict
+pub fn judge_pair(size: usize, windows: &[u32], first: u32, second: u32, bytes: u32) -> Verdict
     ensures { λ r. ⌜ r ≡ pairOf size (windowsOf (now (windows .entry))) first second bytes ⌝ }
 {
     if bytes == 0 {
         return Verdict::Okay;
     }
-    let size = size as u64;
-    if size < bytes {
+    let count = bytes as usize;
+    if size < count {
         return Verdict::Decode;
     }
-    let last = size - bytes;
-    if last < first {
+    let last = size - count;
+    if last < first as usize {
         return Verdict::Decode;
     }
-    if last < second {
+    if last < second as usize {
         return Verdict::Decode;
     }
-    let first_end = first + bytes;
-    let second_end = second + bytes;
-    let mut i = 0;
-    while i + 1 < windows.len() {
-        let window = Window {
-            start: windows[i],
-            length: windows[i + 1],
-        };
-        if touches(window, first, first_end) {
-            return Verdict::Slave;
-        }
-        if touches(window, second, second_end) {
-            return Verdict::Slave;
-        }
-        i += 2;
+    if any_meets(windows, first, second, bytes) {
+        return Verdict::Slave;
     }
     Verdict::Okay
 }

@@ -55,7 +55,7 @@ pub fn fetch(engine: Engine, memory: &[u8], windows: &[u32]) -> Advanced
     ensures { λ r. ⌜ r ≡ fetchOf engine (now (memory .entry)) (windowsOf (now (windows .entry))) ⌝ }
 {
     let current = engine.pointers.current;
-    let verdict = judge(memory.len(), windows, current as u64, BYTES as u64);
+    let verdict = judge(memory.len(), windows, current, BYTES as u32);
     match verdict {
         Verdict::Okay => accept(engine, load_descriptor(memory, current as usize)),
         Verdict::Slave => halt(engine, ErrorBit::SgSlvErr),

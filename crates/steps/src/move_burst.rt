@@ -91,7 +91,7 @@ pub fn move_burst(
         to as u64,
         left,
     );
-    let verdict = judge_pair(memory.len(), windows, from as u64, to as u64, bytes as u64);
+    let verdict = judge_pair(memory.len(), windows, from, to, bytes);
     match verdict {
         Verdict::Okay => {
             copy(memory, from as usize, to as usize, bytes as usize);

@@ -72,7 +72,7 @@ pub fn update(engine: Engine, outcome: Outcome, memory: &mut [u8], windows: &[u3
     ensures { λ r. ⌜ advanceSeen r (now (memory .exit)) ≡ updateOf engine outcome (now (memory .entry)) (windowsOf (now (windows .entry))) ⌝ }
 {
     let at = engine.pointers.current + STATUS as u32;
-    let verdict = judge(memory.len(), windows, at as u64, 4);
+    let verdict = judge(memory.len(), windows, at, 4);
     match verdict {
         Verdict::Okay => {
             let word = status_word(outcome);

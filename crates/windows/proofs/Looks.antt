@@ -14,9 +14,9 @@ use Rattle.kit.specs.Choice.{when, either}
 use Rattle.kit.proofs.Choice.{yes, no, decide}
 use Rattle.memory.specs.declared.window.Window.{Window}
 use Rattle.memory.specs.declared.verdict.Verdict.the-variants.{Okay, Slave}
-use Rattle.memory.specs.Interval.{touchesOf}
+use Rattle.memory.specs.Interval.{touchesOf, hit}
 use Rattle.memory.specs.Verdict.{groupOf}
-use Rattle.memory.proofs.Groups.{hit, group-none, group-decode, group-slave, group-okay}
+use Rattle.memory.proofs.Groups.{group-none, group-decode, group-slave, group-okay}
 use Rattle.windows.specs.Lookup.{touchedOf, pastOf, decideOf}
 
 -- ---- the windows from the i-th on

@@ -49,7 +49,6 @@ returns-2 c s p =
 pub move-on-spec : {M : Type 1} → statement M
 move-on-spec =
     tie.close
-    (tie.spec add-from add-to sub-left (λ c. search needs) burst-bytes-requires (λ c. search needs)
-    (λ c. search needs) (λ c. search needs) (λ c. search needs) (λ c κs. search needs) (λ c. search needs)
+    (tie.spec add-from add-to sub-left (λ c. search needs) burst-bytes-requires (λ c. search needs) (λ c κs. search needs) (λ c. search needs)
     (λ c. search needs) (λ c. search needs) (λ c. search needs) copy-requires (λ c. search needs)
     (λ c. search needs) (λ c. search needs) returns-2 (λ c. search needs) (λ c. search needs))

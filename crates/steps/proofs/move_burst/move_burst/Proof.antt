@@ -65,7 +65,6 @@ returns-3 c =
 pub move-burst-spec : {M : Type 1} → statement M
 move-burst-spec =
     tie.close
-    (tie.spec add-from add-to sub-left (λ c. search needs) burst-bytes-requires (λ c. search needs)
-    (λ c. search needs) (λ c. search needs) (λ c κs. search needs) (λ c. search needs) (λ c. search needs)
+    (tie.spec add-from add-to sub-left (λ c. search needs) burst-bytes-requires (λ c κs. search needs) (λ c. search needs) (λ c. search needs)
     (λ c. search needs) (λ c. search needs) copy-requires after-burst-requires (λ c. search needs)
     (λ c κs. search needs) (λ c. search needs) (λ c κs. search needs) (λ c. search needs) returns returns-2 returns-3)

@@ -172,9 +172,8 @@ fn put_billions(
     next + 9
 }
 
-// Any number's digits from `at` on and the closing byte. It is apart from `put_number`, which most numbers go through, since
-// they are below a million.
-fn put_long(
+// The number's digits from `at` on and the closing byte; the result is the place past it.
+pub fn put_number(
     leading: &[u32; 1000],
     padded: &[u32; 1000],
     out: &mut [u8],
@@ -183,9 +182,12 @@ fn put_long(
     closing: u8,
 ) -> usize
     requires { ⌜ Tables (now leading) (now padded) ⌝ }
-    requires { ⌜ (at + 21 ≤ length (now out)) × (1000 ≤ value) ⌝ }
+    requires { ⌜ at + 21 ≤ length (now out) ⌝ }
     ensures { λ r. ⌜ Puts (now (out .entry)) (now (out .exit)) at r (digitsOf value ++ (closing ∷ [])) ⌝ }
 {
+    if value < 1000 {
+        return put_short(leading, padded, out, at, value as u32, closing);
+    }
     if value < 1000000000 {
         let next = put_thousands(leading, padded, out, at, (value / 1000) as u32);
         put_three(leading, padded, out, next, (value % 1000) as u32, closing);
@@ -203,8 +205,9 @@ fn put_long(
     next + 10
 }
 
-// The number's digits from `at` on and the closing byte; the result is the place past it.
-pub fn put_number(
+// The same, for the loops that put most lines: most numbers are below a million, and these two cases alone are short enough to
+// be compiled into each line.
+pub fn put_quick(
     leading: &[u32; 1000],
     padded: &[u32; 1000],
     out: &mut [u8],
@@ -224,5 +227,5 @@ pub fn put_number(
         put_three(leading, padded, out, next, (value % 1000) as u32, closing);
         return next + 4;
     }
-    put_long(leading, padded, out, at, value, closing)
+    put_number(leading, padded, out, at, value, closing)
 }

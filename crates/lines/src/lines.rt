@@ -5,6 +5,7 @@ use crate::stepping::stops;
 use crate::stepping::used;
 use kit::answer::number;
 use listing::line::put_line;
+use listing::line::put_stop_line;
 use runs::run::refusal;
 use session::LINE_ROOM;
 use session::Mode;
@@ -54,7 +55,7 @@ pub fn lines(
         let phase = engine.phase;
         if stops(phase, left, taken, accepted) {
             let line = stop_line(session.sequence, taken, phase);
-            let put = put_line(leading, padded, out, put, line);
+            let put = put_stop_line(leading, padded, out, put, line);
             let session = Session {
                 engine,
                 mode: Mode::Records,

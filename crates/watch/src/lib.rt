@@ -12,6 +12,7 @@ use kit::answer::number;
 use kit::settings::Settings;
 use kit::word::load;
 use listing::line::Line;
+use listing::line::put_clock_line;
 use listing::line::put_line;
 use listing::word::Word;
 use monitor::clock::Clock;
@@ -105,7 +106,7 @@ pub fn clocks(
         }
         monitor = clocked.monitor;
         let line = clock_line(sequence, clocked.count, monitor.lowest());
-        put = put_line(leading, padded, out, put, line);
+        put = put_clock_line(leading, padded, out, put, line);
         before = sequence;
         at = next;
         if !goes_on(input, at, ended, put, out.len(), mark::AR, size::AR, before) {

@@ -12,7 +12,7 @@ use kit::answer::number;
 use kit::word::load;
 use kit::word::load_half;
 use listing::line::Line;
-use listing::line::put_line;
+use listing::line::put_write_line;
 use listing::word::Word;
 use record::mark;
 use record::size;
@@ -69,7 +69,7 @@ pub fn writes(
         let answer = written.answer;
         engine = written.engine;
         let line = write_line(sequence, offset, answer);
-        put = put_line(leading, padded, out, put, line);
+        put = put_write_line(leading, padded, out, put, line);
         before = sequence;
         at = next;
         if !goes_on(input, at, ended, put, out.len(), mark::WR, size::WR, before) {

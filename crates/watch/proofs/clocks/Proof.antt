@@ -62,22 +62,22 @@ lowest-requires c κs = search needs
 clock-line-requires : tie.Need-clock-line-requires Inv-loop μ-loop
 clock-line-requires c κs = search needs
 
-put-line-requires-2 : tie.Need-put-line-requires-2 Inv-loop μ-loop
-put-line-requires-2 c κs = (c .before .before .before .before .before .before .before .before .before .before .before .before .pre .1 .1 .0, omega (arith, c .before .before .before .before .before .before .before .loop .inv .free, c .before .before .before .before .before .before .before .loop .inv .same))
+put-clock-line-requires : tie.Need-put-clock-line-requires Inv-loop μ-loop
+put-clock-line-requires c κs = (c .before .before .before .before .before .before .before .before .before .before .before .before .pre .1 .1 .0, omega (arith, c .before .before .before .before .before .before .before .loop .inv .free, c .before .before .before .before .before .before .before .loop .inv .same))
 
 goes-on-requires : tie.Need-goes-on-requires Inv-loop μ-loop
 goes-on-requires c κs =
     let v = c .before .before .before .before .before .before .before .before .before .before .loop in
     let line = c .before .before .before .before .clock-line .result in
     let most = line-most line (omega (arith, c .before .before .before .before .clock-line .ok)) (omega (arith, c .before .before .before .before .clock-line .ok)) (omega (arith, c .before .before .before .before .clock-line .ok)) in
-    (midst-inside (v .inv) .1, omega arith, omega (arith, c .before .before .put-line2 .ensures .past, most, v .inv .free, v .inv .same, puts-length (c .before .before .put-line2 .ensures)))
+    (midst-inside (v .inv) .1, omega arith, omega (arith, c .before .before .put-clock-line .ensures .past, most, v .inv .free, v .inv .same, puts-length (c .before .before .put-clock-line .ensures)))
 
 -- the loop goes on: the next record is whole
 whole : (c : tie.Else2 Inv-loop μ-loop) → c .before .before .before .before .before .before .before .before .before .before .before .before .loop .next + 22 ≤ length (now (c .before .before .before .before .before .before .before .before .before .before .before .before .before .before .before .before .before .args .input))
 whole c =
     let a = c .before .before .before .before .before .before .before .before .before .before .before .before .before .before .before .before .before .args in
     let v = c .before .before .before .before .before .before .before .before .before .before .before .before .loop in
-    on-whole (now (a .input)) (v .next) (a .ended) (c .before .before .before .before .put-line2 .result) _ _ 22 (v .sequence) (sym (c .before .goes-on .ensures) ∙ not-false _ (c .if2 .left))
+    on-whole (now (a .input)) (v .next) (a .ended) (c .before .before .before .before .put-clock-line .result) _ _ 22 (v .sequence) (sym (c .before .goes-on .ensures) ∙ not-false _ (c .if2 .left))
 
 add-load : tie.Need-add-load Inv-loop μ-loop
 add-load c = omega (arith, whole (c), c .before .before .before .before .before .before .before .before .before .before .before .before .before .before .before .before .before .pre .1 .0)
@@ -109,19 +109,19 @@ loop-again c =
     let most = line-most line (omega (arith, c .before .before .before .before .before .before .before .before .before .clock-line .ok)) (omega (arith, c .before .before .before .before .before .before .before .before .before .clock-line .ok)) (omega (arith, c .before .before .before .before .before .before .before .before .before .clock-line .ok)) in
     let after = clocking (a .session) (c .before .before .before .before .before .before .before .before .before .before .before .before .before .before .judged .result .monitor) (v .sequence) in
     let g = sym (c .before .before .before .before .goes-on .ensures) ∙ not-false _ (c .before .before .before .if2 .left) in
-    let same = puts-length (c .before .before .before .before .before .before .before .put-line2 .ensures) ∙ v .inv .same in
+    let same = puts-length (c .before .before .before .before .before .before .before .put-clock-line .ensures) ∙ v .inv .same in
     record {
-      order = clock-order (a .base) (now (a .input)) (v .next) (a .ended) (c .before .before .before .before .before .before .before .put-line2 .result) _ after (v .inv .order .mode) g (c .before .before .load .ensures) (c .before .byte .ensures) (c .fields .ensures);
-      free = omega (arith, on-room (now (a .input)) (v .next) (a .ended) (c .before .before .before .before .before .before .before .put-line2 .result) _ _ 22 (v .sequence) g, same);
-      start = omega (arith, v .inv .start, c .before .before .before .before .before .before .before .put-line2 .ensures .past);
+      order = clock-order (a .base) (now (a .input)) (v .next) (a .ended) (c .before .before .before .before .before .before .before .put-clock-line .result) _ after (v .inv .order .mode) g (c .before .before .load .ensures) (c .before .byte .ensures) (c .fields .ensures);
+      free = omega (arith, on-room (now (a .input)) (v .next) (a .ended) (c .before .before .before .before .before .before .before .put-clock-line .result) _ _ 22 (v .sequence) g, same);
+      start = omega (arith, v .inv .start, c .before .before .before .before .before .before .before .put-clock-line .ensures .past);
       same = same;
       turning = midst-turn (v .inv) (clockedOf s (v .sequence) (seen (c .before .before .before .before .before .before .before .before .before .before .before .before .before .before .judged .result)))
           (as-taken s (v .sequence) (v .bits) (v .clock) (a .base + v .at) (now (a .input)) (v .at) (c .before .before .before .before .before .before .before .before .before .before .before .before .before .before .judged .ensures) (sym (c .before .before .before .before .before .before .before .before .before .before .before .before .before .number .ensures) ∙ c .before .before .before .before .before .before .before .before .before .before .before .before .if1 .left))
-          (ap underWay (v .inv .order .mode)) (c .before .before .before .before .before .before .before .before .before .clock-line .ensures ∙ ap (clockLineOf (v .sequence) (c .before .before .before .before .before .before .before .before .before .before .before .before .before .before .judged .result .count)) (c .before .before .before .before .before .before .before .before .before .before .lowest .ensures)) (c .before .before .before .before .before .before .before .put-line2 .ensures) (omega (arith, c .before .before .before .before .before .before .before .put-line2 .ensures .past, most));
+          (ap underWay (v .inv .order .mode)) (c .before .before .before .before .before .before .before .before .before .clock-line .ensures ∙ ap (clockLineOf (v .sequence) (c .before .before .before .before .before .before .before .before .before .before .before .before .before .before .judged .result .count)) (c .before .before .before .before .before .before .before .before .before .before .lowest .ensures)) (c .before .before .before .before .before .before .before .put-clock-line .ensures) (omega (arith, c .before .before .before .before .before .before .before .put-clock-line .ensures .past, most));
     }
 
 same-length-2 : tie.Need-same-length-2 Inv-loop μ-loop
-same-length-2 c = puts-length (c .before .before .before .before .before .put-line2 .ensures) ∙ c .before .before .before .before .before .before .before .before .before .before .before .before .before .loop .inv .same
+same-length-2 c = puts-length (c .before .before .before .before .before .put-clock-line .ensures) ∙ c .before .before .before .before .before .before .before .before .before .before .before .before .before .loop .inv .same
 
 returns-2 : tie.Need-returns-2 Inv-loop μ-loop
 returns-2 c =
@@ -132,7 +132,7 @@ returns-2 c =
     let most = line-most line (omega (arith, c .before .before .before .before .before .before .before .clock-line .ok)) (omega (arith, c .before .before .before .before .before .before .before .clock-line .ok)) (omega (arith, c .before .before .before .before .before .before .before .clock-line .ok)) in
     midst-last (v .inv) (clockedOf s (v .sequence) (seen (c .before .before .before .before .before .before .before .before .before .before .before .before .judged .result)))
     (as-taken s (v .sequence) (v .bits) (v .clock) (a .base + v .at) (now (a .input)) (v .at) (c .before .before .before .before .before .before .before .before .before .before .before .before .judged .ensures) (sym (c .before .before .before .before .before .before .before .before .before .before .before .number .ensures) ∙ c .before .before .before .before .before .before .before .before .before .before .if1 .left))
-    (ap underWay (v .inv .order .mode)) (c .before .before .before .before .before .before .before .clock-line .ensures ∙ ap (clockLineOf (v .sequence) (c .before .before .before .before .before .before .before .before .before .before .before .before .judged .result .count)) (c .before .before .before .before .before .before .before .before .lowest .ensures)) (c .before .before .before .before .before .put-line2 .ensures) (omega (arith, c .before .before .before .before .before .put-line2 .ensures .past, most))
+    (ap underWay (v .inv .order .mode)) (c .before .before .before .before .before .before .before .clock-line .ensures ∙ ap (clockLineOf (v .sequence) (c .before .before .before .before .before .before .before .before .before .before .before .before .judged .result .count)) (c .before .before .before .before .before .before .before .before .lowest .ensures)) (c .before .before .before .before .before .put-clock-line .ensures) (omega (arith, c .before .before .before .before .before .put-clock-line .ensures .past, most))
 
 pub clocks-spec : {M : Type 1} → statement M
 clocks-spec =
@@ -150,7 +150,7 @@ clocks-spec =
     returns
     lowest-requires
     clock-line-requires
-    put-line-requires-2
+    put-clock-line-requires
     goes-on-requires
     add-load
     load-requires

@@ -35,8 +35,8 @@ write-requires c κs = search needs
 write-line-requires : tie.Need-write-line-requires Inv-loop μ-loop
 write-line-requires c κs = search needs
 
-put-line-requires : tie.Need-put-line-requires Inv-loop μ-loop
-put-line-requires c κs = let k = c .before .before .before .before .loop .inv .2 in (c .before .before .before .before .before .before .before .before .pre .1 .1 .0, omega (arith, k .free, k .same))
+put-write-line-requires : tie.Need-put-write-line-requires Inv-loop μ-loop
+put-write-line-requires c κs = let k = c .before .before .before .before .loop .inv .2 in (c .before .before .before .before .before .before .before .before .pre .1 .1 .0, omega (arith, k .free, k .same))
 
 goes-on-requires : tie.Need-goes-on-requires Inv-loop μ-loop
 goes-on-requires c κs =
@@ -46,14 +46,14 @@ goes-on-requires c κs =
     let s = withEngine (a .session) (v .inv .0) (v .engine) in
     let line = c .before .before .before .before .write-line .result in
     let most = line-most line (omega (arith, c .before .before .before .before .write-line .ok)) (omega (arith, c .before .before .before .before .write-line .ok)) (omega (arith, c .before .before .before .before .write-line .ok)) in
-    (midst-inside k .1, omega arith, omega (arith, c .before .before .put-line .ensures .past, most, k .free, k .same, puts-length (c .before .before .put-line .ensures)))
+    (midst-inside k .1, omega arith, omega (arith, c .before .before .put-write-line .ensures .past, most, k .free, k .same, puts-length (c .before .before .put-write-line .ensures)))
 
 -- the loop goes on: the next record is whole
 whole : (c : tie.Else1 Inv-loop μ-loop) → c .before .before .before .before .before .before .before .before .before .loop .next + 12 ≤ length (now (c .before .before .before .before .before .before .before .before .before .before .before .before .before .args .input))
 whole c =
     let a = c .before .before .before .before .before .before .before .before .before .before .before .before .before .args in
     let v = c .before .before .before .before .before .before .before .before .before .loop in
-    on-whole (now (a .input)) (v .next) (a .ended) (c .before .before .before .before .put-line .result) _ _ 12 (v .sequence) (sym (c .before .goes-on .ensures) ∙ not-false _ (c .if1 .left))
+    on-whole (now (a .input)) (v .next) (a .ended) (c .before .before .before .before .put-write-line .result) _ _ 12 (v .sequence) (sym (c .before .goes-on .ensures) ∙ not-false _ (c .if1 .left))
 
 add-load : tie.Need-add-load Inv-loop μ-loop
 add-load c = omega (arith, whole (c), c .before .before .before .before .before .before .before .before .before .before .before .before .before .pre .1 .0)
@@ -92,22 +92,22 @@ loop-again c =
     let most = line-most line (omega (arith, c .before .before .before .before .before .before .before .before .before .write-line .ok)) (omega (arith, c .before .before .before .before .before .before .before .before .before .write-line .ok)) (omega (arith, c .before .before .before .before .before .before .before .before .before .write-line .ok)) in
     let g = sym (c .before .before .before .before .goes-on .ensures) ∙ not-false _ (c .before .before .before .if1 .left) in
     let after = withEngine (a .session) (v .sequence) (c .before .before .before .before .before .before .before .before .before .before .before .write .result .engine) in
-    let same = puts-length (c .before .before .before .before .before .before .before .put-line .ensures) ∙ k .same in (
+    let same = puts-length (c .before .before .before .before .before .before .before .put-write-line .ensures) ∙ k .same in (
       v .sequence,
       v .next,
       record {
-        order = write-order (a .base) (now (a .input)) (v .next) (a .ended) (c .before .before .before .before .before .before .before .put-line .result) _ after (k .order .mode) g (c .before .before .load .ensures) (c .before .load-half .ensures) (c .load2 .ensures);
-        free = omega (arith, on-room (now (a .input)) (v .next) (a .ended) (c .before .before .before .before .before .before .before .put-line .result) _ _ 12 (v .sequence) g, same);
-        start = omega (arith, k .start, c .before .before .before .before .before .before .before .put-line .ensures .past);
+        order = write-order (a .base) (now (a .input)) (v .next) (a .ended) (c .before .before .before .before .before .before .before .put-write-line .result) _ after (k .order .mode) g (c .before .before .load .ensures) (c .before .load-half .ensures) (c .load2 .ensures);
+        free = omega (arith, on-room (now (a .input)) (v .next) (a .ended) (c .before .before .before .before .before .before .before .put-write-line .result) _ _ 12 (v .sequence) g, same);
+        start = omega (arith, k .start, c .before .before .before .before .before .before .before .put-write-line .ensures .past);
         same = same;
         turning = midst-turn k (writtenOf s (v .sequence) (v .offset) (writeSeen (c .before .before .before .before .before .before .before .before .before .before .before .write .result)))
             (as-written s (v .sequence) (v .offset) (v .value) (a .base + v .inv .1) (now (a .input)) (v .inv .1) (c .before .before .before .before .before .before .before .before .before .before .before .write .ensures))
-            (ap underWay (k .order .mode)) (c .before .before .before .before .before .before .before .before .before .write-line .ensures) (c .before .before .before .before .before .before .before .put-line .ensures) (omega (arith, c .before .before .before .before .before .before .before .put-line .ensures .past, most));
+            (ap underWay (k .order .mode)) (c .before .before .before .before .before .before .before .before .before .write-line .ensures) (c .before .before .before .before .before .before .before .put-write-line .ensures) (omega (arith, c .before .before .before .before .before .before .before .put-write-line .ensures .past, most));
       },
     )
 
 same-length : tie.Need-same-length Inv-loop μ-loop
-same-length c = puts-length (c .before .before .before .before .before .put-line .ensures) ∙ c .before .before .before .before .before .before .before .before .before .before .loop .inv .2 .same
+same-length c = puts-length (c .before .before .before .before .before .put-write-line .ensures) ∙ c .before .before .before .before .before .before .before .before .before .before .loop .inv .2 .same
 
 returns : tie.Need-returns Inv-loop μ-loop
 returns c =
@@ -119,7 +119,7 @@ returns c =
     let most = line-most line (omega (arith, c .before .before .before .before .before .before .before .write-line .ok)) (omega (arith, c .before .before .before .before .before .before .before .write-line .ok)) (omega (arith, c .before .before .before .before .before .before .before .write-line .ok)) in
     midst-last k (writtenOf s (v .sequence) (v .offset) (writeSeen (c .before .before .before .before .before .before .before .before .before .write .result)))
     (as-written s (v .sequence) (v .offset) (v .value) (a .base + v .inv .1) (now (a .input)) (v .inv .1) (c .before .before .before .before .before .before .before .before .before .write .ensures))
-    (ap underWay (k .order .mode)) (c .before .before .before .before .before .before .before .write-line .ensures) (c .before .before .before .before .before .put-line .ensures) (omega (arith, c .before .before .before .before .before .put-line .ensures .past, most))
+    (ap underWay (k .order .mode)) (c .before .before .before .before .before .before .before .write-line .ensures) (c .before .before .before .before .before .put-write-line .ensures) (omega (arith, c .before .before .before .before .before .put-write-line .ensures .past, most))
 
 pub writes-spec : {M : Type 1} → statement M
 writes-spec =
@@ -130,7 +130,7 @@ writes-spec =
     loop-holds
     write-requires
     write-line-requires
-    put-line-requires
+    put-write-line-requires
     goes-on-requires
     add-load
     load-requires

@@ -20,35 +20,44 @@ same-length c = search needs
 returns : tie.Need-returns
 returns c = search needs
 
-cast-put-leading : tie.Need-cast-put-leading
-cast-put-leading c = search needs
+cast-put-thousands : tie.Need-cast-put-thousands
+cast-put-thousands c = search needs
 
-put-leading-requires : tie.Need-put-leading-requires
-put-leading-requires c κs = (c .before .before .before .before .pre .0, (omega arith, omega arith))
+put-thousands-requires : tie.Need-put-thousands-requires
+put-thousands-requires c κs = (c .before .before .before .before .pre .0, (omega arith, omega arith))
 
 cast-put-three : tie.Need-cast-put-three
 cast-put-three c = search needs
 
 put-three-requires : tie.Need-put-three-requires
-put-three-requires c κs = let a = c .before .before .before .before .before .before .before .before in (a .pre .0, (omega (arith, digits-most 2 (a .args .value / 1000) (omega arith)), omega arith))
+put-three-requires c κs = let a = c .before .before .before .before .before .before .before .before in (a .pre .0, (omega (arith, digits-most 5 (a .args .value / 1000) (omega arith)), omega arith))
 
 add-result : tie.Need-add-result
-add-result c = omega (arith, digits-most 2 (c .before .before .before .before .before .before .before .before .before .before .before .args .value / 1000) (omega arith))
+add-result c = omega (arith, digits-most 5 (c .before .before .before .before .before .before .before .before .before .before .before .args .value / 1000) (omega arith))
 
 same-length-2 : tie.Need-same-length-2
 same-length-2 c = search needs
 
 returns-2 : tie.Need-returns-2
-returns-2 c = number-put 3 (c .before .before .before .before .before .before .before .before .before .before .before .args .value) (c .before .before .before .before .before .before .before .before .before .before .before .args .closing) (omega arith) (omega arith) (c .before .before .before .before .before .before .put-leading .ensures) (c .before .before .put-three .ensures) refl
+returns-2 c = number-put 3 (c .before .before .before .before .before .before .before .before .before .before .before .args .value) (c .before .before .before .before .before .before .before .before .before .before .before .args .closing) (omega arith) (omega arith) (c .before .before .before .before .before .before .put-thousands .ensures) (c .before .before .put-three .ensures) refl
 
-put-long-requires : tie.Need-put-long-requires
-put-long-requires c κs = (c .before .before .before .before .pre .0, (omega arith, omega arith))
+put-billions-requires : tie.Need-put-billions-requires
+put-billions-requires c κs = (c .before .before .before .before .pre .0, (omega arith, omega arith))
+
+cast-put-nine : tie.Need-cast-put-nine
+cast-put-nine c = search needs
+
+put-nine-requires : tie.Need-put-nine-requires
+put-nine-requires c κs = let a = c .before .before .before .before .before .before .before .before in (a .pre .0, (omega (arith, digits-most 10 (a .args .value / 1000000000) (omega arith)), omega arith))
+
+add-result-2 : tie.Need-add-result-2
+add-result-2 c = omega (arith, digits-most 10 (c .before .before .before .before .before .before .before .before .before .before .before .args .value / 1000000000) (omega arith))
 
 same-length-3 : tie.Need-same-length-3
 same-length-3 c = search needs
 
 returns-3 : tie.Need-returns-3
-returns-3 c = search needs
+returns-3 c = let a = c .before .before .before .before .before .before .before .before .before .before .before .args in number-put 9 (a .value) (a .closing) (omega arith) (omega arith) (c .before .before .before .before .before .before .put-billions .ensures) (c .before .before .put-nine .ensures) refl
 
 pub put-number-spec : {M : Type 1} → statement M
 put-number-spec =
@@ -58,13 +67,16 @@ put-number-spec =
     put-short-requires
     same-length
     returns
-    cast-put-leading
-    put-leading-requires
+    cast-put-thousands
+    put-thousands-requires
     cast-put-three
     put-three-requires
     add-result
     same-length-2
     returns-2
-    put-long-requires
+    put-billions-requires
+    cast-put-nine
+    put-nine-requires
+    add-result-2
     same-length-3
     returns-3)

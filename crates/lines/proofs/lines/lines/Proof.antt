@@ -54,20 +54,20 @@ stops-requires c κs = search needs
 stop-line-requires : tie.Need-stop-line-requires Inv-loop μ-loop
 stop-line-requires c κs = search needs
 
-put-line-requires : tie.Need-put-line-requires Inv-loop μ-loop
-put-line-requires c κs = (c .before .before .before .before .before .before .before .before .before .before .before .before .before .before .before .pre .1 .1 .0, omega (arith, c .before .before .before .before .loop-test .taken, c .before .before .before .before .before .before .before .before .before .before .before .before .before .before .before .pre .1 .1 .1, c .before .before .before .before .before .loop .inv .0 .same))
+put-stop-line-requires : tie.Need-put-stop-line-requires Inv-loop μ-loop
+put-stop-line-requires c κs = (c .before .before .before .before .before .before .before .before .before .before .before .before .before .before .before .pre .1 .1 .0, omega (arith, c .before .before .before .before .loop-test .taken, c .before .before .before .before .before .before .before .before .before .before .before .before .before .before .before .pre .1 .1 .1, c .before .before .before .before .before .loop .inv .0 .same))
 
 same-length : tie.Need-same-length Inv-loop μ-loop
 same-length c = c .before .before .before .before .before .before .before .before .before .loop .inv .0 .memory
 
 same-length-2 : tie.Need-same-length-2 Inv-loop μ-loop
-same-length-2 c = puts-length (c .before .before .before .put-line .ensures) ∙ c .before .before .before .before .before .before .before .before .before .loop .inv .0 .same
+same-length-2 c = puts-length (c .before .before .before .put-stop-line .ensures) ∙ c .before .before .before .before .before .before .before .before .before .loop .inv .0 .same
 
 returns : tie.Need-returns Inv-loop μ-loop
 returns c =
     let v = c .before .before .before .before .before .before .before .before .before .loop in
-    telling-stop (v .inv .0) (sym (c .before .before .before .before .before .before .before .stops .ensures) ∙ c .before .before .before .before .before .before .if1 .taken) (c .before .before .before .before .before .stop-line .ensures) (c .before .before .before .put-line .ensures) (omega (arith, c .before .before .before .before .before .before .before .before .loop-test .taken, c .before .before .before .before .before .before .before .before .before .before .before .before .before .before .before .before .before .before .before .pre .1 .1 .1))
-    (omega (arith, c .before .before .before .put-line .ensures .past, line-most (c .before .before .before .before .before .stop-line .result) (omega (arith, c .before .before .before .before .before .stop-line .ok)) (omega (arith, c .before .before .before .before .before .stop-line .ok)) (omega (arith, c .before .before .before .before .before .stop-line .ok))))
+    telling-stop (v .inv .0) (sym (c .before .before .before .before .before .before .before .stops .ensures) ∙ c .before .before .before .before .before .before .if1 .taken) (c .before .before .before .before .before .stop-line .ensures) (c .before .before .before .put-stop-line .ensures) (omega (arith, c .before .before .before .before .before .before .before .before .loop-test .taken, c .before .before .before .before .before .before .before .before .before .before .before .before .before .before .before .before .before .before .before .pre .1 .1 .1))
+    (omega (arith, c .before .before .before .put-stop-line .ensures .past, line-most (c .before .before .before .before .before .stop-line .result) (omega (arith, c .before .before .before .before .before .stop-line .ok)) (omega (arith, c .before .before .before .before .before .stop-line .ok)) (omega (arith, c .before .before .before .before .before .stop-line .ok))))
 
 slice-aggregate-advance : tie.Need-slice-aggregate-advance Inv-loop μ-loop
 slice-aggregate-advance c = sym (length-take-le (c .before .before .before .before .before .before .before .before .before .before .before .used .result) (now (c .before .before .before .before .before .before .before .before .before .before .before .before .before .before .before .args .windows)) (omega (arith, c .before .before .before .before .before .before .before .before .before .before .before .used .ensures .1, c .before .before .before .before .before .before .before .before .before .before .before .before .before .before .before .pre .1 .0)))
@@ -81,8 +81,8 @@ advance-requires c κs =
 event-line-requires : tie.Need-event-line-requires Inv-loop μ-loop
 event-line-requires c κs = search needs
 
-put-line-requires-2 : tie.Need-put-line-requires-2 Inv-loop μ-loop
-put-line-requires-2 c κs = (c .before .before .before .before .before .before .before .before .before .before .before .before .before .before .before .before .before .before .before .before .pre .1 .1 .0, omega (arith, c .before .before .before .before .before .before .before .before .before .loop-test .taken, c .before .before .before .before .before .before .before .before .before .before .before .before .before .before .before .before .before .before .before .before .pre .1 .1 .1, c .before .before .before .before .before .before .before .before .before .before .loop .inv .0 .same))
+put-line-requires : tie.Need-put-line-requires Inv-loop μ-loop
+put-line-requires c κs = (c .before .before .before .before .before .before .before .before .before .before .before .before .before .before .before .before .before .before .before .before .pre .1 .1 .0, omega (arith, c .before .before .before .before .before .before .before .before .before .loop-test .taken, c .before .before .before .before .before .before .before .before .before .before .before .before .before .before .before .before .before .before .before .before .pre .1 .1 .1, c .before .before .before .before .before .before .before .before .before .before .loop .inv .0 .same))
 
 sub-left : tie.Need-sub-left Inv-loop μ-loop
 sub-left c =
@@ -95,7 +95,7 @@ add-taken c =
     omega (arith, telling-goes (c .before .before .before .before .before .before .before .before .before .before .before .before .before .before .before .before .before .loop .inv .0) go .fewer)
 
 loop-less : tie.Need-loop-less Inv-loop μ-loop
-loop-less c = omega (arith, c .before .before .before .before .before .before .put-line2 .ensures .past, line-some (c .before .before .before .before .before .before .before .before .event-line .result), c .before .before .before .before .before .before .before .before .before .before .before .before .before .before .before .before .loop-test .taken, c .before .before .before .before .before .before .before .before .before .before .before .before .before .before .before .before .before .before .before .before .before .before .before .before .before .before .before .pre .1 .1 .1)
+loop-less c = omega (arith, c .before .before .before .before .before .before .put-line .ensures .past, line-some (c .before .before .before .before .before .before .before .before .event-line .result), c .before .before .before .before .before .before .before .before .before .before .before .before .before .before .before .before .loop-test .taken, c .before .before .before .before .before .before .before .before .before .before .before .before .before .before .before .before .before .before .before .before .before .before .before .before .before .before .before .pre .1 .1 .1)
 
 loop-again : tie.Need-loop-again Inv-loop μ-loop
 loop-again c =
@@ -105,8 +105,8 @@ loop-again c =
     let ens = c .before .before .before .before .before .before .before .before .before .before .before .advance .ensures ∙ ap (λ (n : ℕ). advanceOf (v .engine) (v .memory) (windowsOf (take n (now (a .windows))))) (c .before .before .before .before .before .before .before .before .before .before .before .before .before .before .before .before .before .before .before .before .before .before .before .used .ensures .0) in
     let keeps = advance-keeps (v .engine) (v .memory) (windowsOf (take (usedOf (a .session .windows)) (now (a .windows)))) in (
       telling-same
-          (telling-step (v .inv .0) go ens (λ i. c .before .before .before .before .before .before .before .before .before .slice-known4 .given i .fits) (c .before .before .before .before .before .before .before .before .event-line .ensures) (c .before .before .before .before .before .before .put-line2 .ensures) (omega (arith, c .before .before .before .before .before .before .before .before .before .before .before .before .before .before .before .before .loop-test .taken, c .before .before .before .before .before .before .before .before .before .before .before .before .before .before .before .before .before .before .before .before .before .before .before .before .before .before .before .pre .1 .1 .1))
-          (omega (arith, c .before .before .before .before .before .before .put-line2 .ensures .past, line-most (c .before .before .before .before .before .before .before .before .event-line .result) (omega (arith, c .before .before .before .before .before .before .before .before .event-line .ok)) (omega (arith, c .before .before .before .before .before .before .before .before .event-line .ok)) (omega (arith, c .before .before .before .before .before .before .before .before .event-line .ok)))))
+          (telling-step (v .inv .0) go ens (λ i. c .before .before .before .before .before .before .before .before .before .slice-known4 .given i .fits) (c .before .before .before .before .before .before .before .before .event-line .ensures) (c .before .before .before .before .before .before .put-line .ensures) (omega (arith, c .before .before .before .before .before .before .before .before .before .before .before .before .before .before .before .before .loop-test .taken, c .before .before .before .before .before .before .before .before .before .before .before .before .before .before .before .before .before .before .before .before .before .before .before .before .before .before .before .pre .1 .1 .1))
+          (omega (arith, c .before .before .before .before .before .before .put-line .ensures .past, line-most (c .before .before .before .before .before .before .before .before .event-line .result) (omega (arith, c .before .before .before .before .before .before .before .before .event-line .ok)) (omega (arith, c .before .before .before .before .before .before .before .before .event-line .ok)) (omega (arith, c .before .before .before .before .before .before .before .before .event-line .ok)))))
           (ap (λ (x : AfterAdvance). x .engine .settings) ens ∙ keeps .engine .settings ∙ v .inv .1) (ap (λ (x : AfterAdvance). x .engine .simple) ens ∙ keeps .engine .simple ∙ v .inv .2),
       refl,
       refl,
@@ -134,14 +134,14 @@ lines-spec =
     loop-holds
     stops-requires
     stop-line-requires
-    put-line-requires
+    put-stop-line-requires
     same-length
     same-length-2
     returns
     slice-aggregate-advance
     advance-requires
     event-line-requires
-    put-line-requires-2
+    put-line-requires
     sub-left
     add-taken
     loop-less

@@ -16,24 +16,24 @@ pub enum Verdict {
     Decode,
 }
 
-// Whether a window has one of the `bytes` bytes from `first` on or from `second` on. Both are asked of each window without a
-// branch between them: which windows start below a group is anyone's guess.
+// Whether a window has one of the `bytes` bytes from `first` on or from `second` on. All windows are looked at, without a branch
+// among them: which of them start below a group is anyone's guess, and so the compiler takes four at a time.
 fn any_meets(windows: &[u32], first: u32, second: u32, bytes: u32) -> bool
     requires { ⌜ 0 < bytes ⌝ }
     ensures { λ r. ⌜ r ≡ eitherOf (hit (windowsOf (now (windows .entry))) first (first + bytes)) (hit (windowsOf (now (windows .entry))) second (second + bytes)) ⌝ }
 {
+    let mut met = false;
     let mut i = 0;
     while i + 1 < windows.len() {
         let window = Window {
             start: windows[i],
             length: windows[i + 1],
         };
-        if either(meets(window, first, bytes), meets(window, second, bytes)) {
-            return true;
-        }
+        let here = either(meets(window, first, bytes), meets(window, second, bytes));
+        met = either(met, here);
         i += 2;
     }
-    false
+    met
 }
 
 // The verdict of the `bytes` bytes from `start` on, in a memory of `size` bytes.

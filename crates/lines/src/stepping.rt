@@ -5,9 +5,12 @@ use listing::word::Word;
 use state::engine::Phase;
 use state::engine::busy;
 use steps::event::Event;
+use steps::report::report_of;
 ghost use mathlib.Core.Path.{_≡_};
 ghost use Prim.Native.Nat.{_≤_};
-ghost use Rattle.session.specs.Stepping.{usedOf, eventLineOf, stopLineOf, stopsOf};
+ghost use lib.ListN.{getD};
+ghost use Rattle.listing.specs.declared.word.Word.the-variants.{Stop};
+ghost use Rattle.session.specs.Stepping.{usedOf, eventWords, eventLineOf, stopLineOf, stopsOf};
 
 // An ST has no more steps than a 16-bit number says.
 const MOST_STEPS: u32 = 65535;
@@ -35,18 +38,31 @@ fn line(sequence: u32, word: Word, first: u32, second: u32) -> Line
     }
 }
 
+// The word of an event, by its number in the report.
+fn event_word(number: u32) -> Word
+    ensures { λ r. ⌜ r ≡ getD eventWords number Stop ⌝ }
+{
+    match number {
+        1 => Word::Fetch,
+        2 => Word::Move,
+        3 => Word::Fault,
+        4 => Word::Update,
+        5 => Word::Halt,
+        _ => Word::Stop,
+    }
+}
+
 // The line of an event; a step without one has none.
 pub fn event_line(sequence: u32, event: Event) -> Line
     ensures { λ r. ⌜ r ≡ eventLineOf sequence event ⌝ }
 {
-    match event {
-        Event::None => line(sequence, Word::Stop, 0, 0),
-        Event::Fetch(current) => line(sequence, Word::Fetch, current, 0),
-        Event::Move(burst) => line(sequence, Word::Move, burst.start, burst.bytes),
-        Event::Fault { destination, bit } => line(sequence, Word::Fault, destination, bit),
-        Event::Update { current, word } => line(sequence, Word::Update, current, word),
-        Event::Halt { current, bit } => line(sequence, Word::Halt, current, bit),
-    }
+    let report = report_of(event);
+    line(
+        sequence,
+        event_word(report.number),
+        report.first,
+        report.second,
+    )
 }
 
 // stop steps Idle

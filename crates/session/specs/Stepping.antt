@@ -1,7 +1,8 @@
 -- RULES.md, "Trace and listing": the lines of ST: one a step, then stop.
 use Prim.Native.Nat.{ℕ, _+_, _-_, _*_, min}
 use mathlib.Core.Bool.{Bool, not}
-use lib.ListN.{length, take}
+use mathlib.Core.List.{List, [], _∷_}
+use lib.ListN.{length, getD, take}
 use lib.Dec.{eqb, leb}
 use Rattle.kit.specs.Choice.{when, either}
 use Rattle.kit.specs.Limits.{mostWindows}
@@ -11,7 +12,7 @@ use Rattle.state.specs.State.{busyOf}
 use Rattle.memory.specs.Windows.{windowsOf}
 use Rattle.reads.specs.Read.{bitIf}
 use Rattle.steps.specs.declared.event.Event.{Event}
-use Rattle.steps.specs.declared.event.Event.the-variants.{None, Fetch, Move, Fault, Update, Halt}
+use Rattle.steps.specs.Report.{reportOf}
 use Rattle.steps.specs.Step.{advanceOf}
 use Rattle.runs.specs.Run as runs
 use Rattle.listing.specs.declared.line.Line.{Line}
@@ -33,14 +34,13 @@ mostSteps = 65535
 abbrev pub lineAs : ℕ → Word → ℕ → ℕ → Line
 lineAs sequence word first second = record { sequence = sequence; word = word; first = first; second = second }
 
--- fetch current 0; move destination bytes; fault destination CDMASR-bit; update current word; halt current CDMASR-bit
+-- the words of events, by the numbers of steps' `reportOf`
+abbrev pub eventWords : List Word
+eventWords = words.Stop ∷ words.Fetch ∷ words.Move ∷ words.Fault ∷ words.Update ∷ words.Halt ∷ []
+
+-- an event's word and what is told of it
 abbrev pub eventLineOf : ℕ → Event → Line
-eventLineOf n None = lineAs n words.Stop 0 0
-eventLineOf n (Fetch current) = lineAs n words.Fetch current 0
-eventLineOf n (Move burst) = lineAs n words.Move (burst .start) (burst .bytes)
-eventLineOf n (Fault destination b) = lineAs n words.Fault destination b
-eventLineOf n (Update current word) = lineAs n words.Update current word
-eventLineOf n (Halt current b) = lineAs n words.Halt current b
+eventLineOf n e = let r = reportOf e in lineAs n (getD eventWords (r .number) words.Stop) (r .first) (r .second)
 
 -- stop steps Idle
 abbrev pub stopLineOf : ℕ → ℕ → Phase → Line

@@ -3,10 +3,10 @@ use kit::answer::number;
 use kit::settings::legal;
 use reads::read::read;
 use registers::write::write;
+use spelling::load;
 use state::engine::interrupt_line;
 use state::engine::well_formed;
 use words::engine_words::store;
-use spelling::load;
 ghost use mathlib.Core.Path.{_≡_};
 ghost use Rattle.interface.specs.Calls.{valueSeen, readWordsOf, writeWordsOf, wordsSeen, lineWordsOf};
 

@@ -5,9 +5,9 @@ use kit::limits::MOST_WINDOWS;
 use kit::settings::legal;
 use moves::move_on::MovedOn;
 use moves::move_on::move_on;
+use spelling::moves;
 use words::engine_words::settings;
 use words::engine_words::transfer;
-use spelling::moves;
 ghost use mathlib.Core.Path.{_≡_};
 ghost use Rattle.interface.specs.Moving.{goesOnOf, MovesWords};
 

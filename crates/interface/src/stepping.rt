@@ -7,12 +7,12 @@ use kit::limits::MOST_WINDOWS;
 use kit::settings::legal;
 use moves::move_on::MovedOn;
 use runs::walk::walk;
+use spelling::sound;
 use steps::event::Event;
 use steps::report::report_of;
 use words::engine_words::engine_from;
 use words::engine_words::settings;
 use words::engine_words::store_stepped;
-use spelling::sound;
 ghost use mathlib.Core.Path.{_≡_};
 ghost use Rattle.kit.specs.Answer.{numberOf};
 ghost use Rattle.runs.specs.Run.{refusalOf};
@@ -75,12 +75,7 @@ fn judge_words(words: &[u32; 20], size: usize, windows: usize) -> Answer
 }
 
 // Up to `most` steps of the engine that the words hold: the one place from which the engine is read, walks and is stored.
-fn walk_words(
-    words: &mut [u32; 20],
-    memory: &mut [u8],
-    windows: &[u32],
-    most: u32,
-) -> WalkedWords
+fn walk_words(words: &mut [u32; 20], memory: &mut [u8], windows: &[u32], most: u32) -> WalkedWords
     ensures { λ r. ⌜ walkWordsSeen r (now (words .exit)) (now (memory .exit)) ≡ walkWordsOf most (now (words .entry)) (now (memory .entry)) (now (windows .entry)) ⌝ }
 {
     let answer = judge_words(words, memory.len(), windows.len() / 2);

@@ -263,8 +263,8 @@ module _ (w : List ℕ) where
       let clear = apart (phaseListedOf (word w 15)) (eqb (word w 5) 0) (mode .0) in
       let zero = eqb-true (word w 5) 0 (clear .1) in
       let fits =
-          phases (λ (k : ℕ). eqb k 2 ≡ false → phaseFits (phaseFrom k (transferFrom w)) true ≡ true) (word w 15)
-          (λ _. refl) (λ _. refl) (λ n. absurd (never (sym n))) (λ _. refl) (λ _. refl) (λ _. refl) (λ _. refl) (clear .0) other in
+      phases (λ (k : ℕ). eqb k 2 ≡ false → phaseFits (phaseFrom k (transferFrom w)) true ≡ true) (word w 15)
+      (λ _. refl) (λ _. refl) (λ n. absurd (never (sym n))) (λ _. refl) (λ _. refl) (λ _. refl) (λ _. refl) (clear .0) other in
       record {
         bit = ap bitListedOf zero;
         phase = clear .0;
@@ -294,14 +294,15 @@ sound-spelled w e =
     let all = apart (twentyOf w && truthsOf w && alignedOf w && leb (word w 14) mostBytes) (phaseSoundOf w) e in
     let count = apart (twentyOf w && truthsOf w && alignedOf w) (leb (word w 14) mostBytes) (all .0) in
     let pointers = apart (twentyOf w && truthsOf w) (alignedOf w) (count .0) in
-    let phase = phase-sound w (all .1) in
-    (join (join (join (pointers .0) (phase .bit)) (phase .phase)) (phase .rest),
-    joined (engineFrom w) (record {
-      pointers = sym (aligned-pointers w) ∙ pointers .1;
-      count = count .1;
-      error = phase .error;
-      phase = phase .fits;
-    }))
+    let phase = phase-sound w (all .1) in (
+      join (join (join (pointers .0) (phase .bit)) (phase .phase)) (phase .rest),
+      joined (engineFrom w) (record {
+        pointers = sym (aligned-pointers w) ∙ pointers .1;
+        count = count .1;
+        error = phase .error;
+        phase = phase .fits;
+      }),
+    )
 
 clear-zero : (b : ErrorBit) → not (both (errorSetOf b) true) ≡ true → eqb (errorBitOf b) 0 ≡ true
 clear-zero Clear e = refl

@@ -33,8 +33,8 @@ midst w e =
     let count = apart (eqb (word w 5) 0) (leb (word w 14) mostBytes) (phase .0) in
     let two = eqb-true (word w 15) 2 (phase .1) in
     let moves =
-        ap (λ (n : ℕ). when (eqb n 0) (bitListedOf (word w 5) && stillOf w) (when (eqb n 2) (eqb (word w 5) 0 && fitsOf w) (phaseListedOf n && eqb (word w 5) 0 && eqb (word w 2) 1 && stillOf w))) two
-        ∙ join (count .0) (all .1) in
+    ap (λ (n : ℕ). when (eqb n 0) (bitListedOf (word w 5) && stillOf w) (when (eqb n 2) (eqb (word w 5) 0 && fitsOf w) (phaseListedOf n && eqb (word w 5) 0 && eqb (word w 2) 1 && stillOf w))) two
+    ∙ join (count .0) (all .1) in
     let sound = join (join (settled .0) (count .1)) moves in
     let spelled = sound-spelled w sound in
     let moving = ap (λ (n : ℕ). phaseFrom n (transferFrom w)) two in

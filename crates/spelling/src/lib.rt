@@ -1,5 +1,11 @@
 // include/belikumba.h, "Engine": which numbers are an engine's words, and which are those of a well-formed one. They are judged
 // as they stand: an engine made of them and stored again to be compared would cost as much as a step.
+use kit::limits::ADDRESS_END;
+use kit::limits::MOST_BYTES;
+use kit::settings::Settings;
+use state::engine::Engine;
+use state::engine::Pointers;
+use state::engine::fresh;
 use words::engine_words::control;
 use words::engine_words::phase;
 use words::engine_words::pointers;
@@ -7,12 +13,6 @@ use words::engine_words::settings;
 use words::engine_words::simple;
 use words::engine_words::status;
 use words::engine_words::transfer;
-use kit::limits::ADDRESS_END;
-use kit::limits::MOST_BYTES;
-use kit::settings::Settings;
-use state::engine::Engine;
-use state::engine::Pointers;
-use state::engine::fresh;
 ghost use mathlib.Core.Path.{_≡_};
 ghost use Rattle.words.specs.EngineWords.{illFormedOf, engineOf};
 ghost use Rattle.spelling.specs.Spelling.{twentyOf, truthsOf, bitListedOf, phaseListedOf, stillOf, spelledOf, alignedOf, insideOf, fitsOf, phaseSoundOf, soundOf, settledOf, movesOf};
@@ -155,11 +155,7 @@ fn phase_sound(words: &[u32; 20]) -> bool
 pub fn sound(words: &[u32; 20]) -> bool
     ensures { λ r. ⌜ r ≡ soundOf (now (words .entry)) ⌝ }
 {
-    twenty(words)
-        & truths(words)
-        & aligned(words)
-        & (words[14] <= MOST_BYTES)
-        & phase_sound(words)
+    twenty(words) & truths(words) & aligned(words) & (words[14] <= MOST_BYTES) & phase_sound(words)
 }
 
 // No error bit is set, the byte count register fits, and the phase is a move.

@@ -48,7 +48,7 @@ returns-2 c =
     let m = now (a .memory) in
     let windows = windowsOf (now (a .windows)) in
     let walks =
-        walked .walk .ensures ∙ ap (λ (s : Engine). walkFrom (a .most) 0 (begun s m) windows) (read .engine-from .ensures) in
+    walked .walk .ensures ∙ ap (λ (s : Engine). walkFrom (a .most) 0 (begun s m) windows) (read .engine-from .ensures) in
     walk-taken (a .most) w m (now (a .windows)) (number judged) (walked .walk .result) (read .before .before .if1 .left)
     (walks ∙ ap (λ (s : Engine). walkFrom (a .most) 0 (begun s m) windows) (sym (taken read .engine)))
     (c .store-stepped .ensures ∙ stored-steps w m windows (a .most) (walked .walk .result) (taken read) walks)

@@ -5,7 +5,7 @@ use Prim.Native.Nat.{ℕ, _+_, _≤_}
 use native.Mathlib.Omega.{arith}
 use lib.ListN.{length, length-append}
 use lib.Seq.{sets, length-sets}
-use Rattle.memory.proofs.Stores.{sets-append}
+use Rattle.kit.proofs.Stores.{sets-append}
 use Rattle.digits.specs.Puts.{Puts, Starts}
 use Rattle.digits.proofs.Sets.{sets-cover}
 

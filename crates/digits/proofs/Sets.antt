@@ -6,7 +6,7 @@ use native.Mathlib.Omega.{arith}
 use native.Mathlib.Nat.{not-suc-le-zero}
 use lib.ListN.{length, set}
 use lib.Seq.{sets, set-set, set-comm}
-use Rattle.memory.proofs.Stores.{sets-append}
+use Rattle.kit.proofs.Stores.{sets-append}
 
 -- a store before a run may come first
 sets-set : (m : List ℕ) (i : ℕ) (vs : List ℕ) (k v : ℕ) → k < i → set (sets m i vs) k v ≡ sets (set m k v) i vs

@@ -1,4 +1,5 @@
 pub mod Choice
 pub mod Legal
 pub mod Lists
+pub mod Stores
 pub mod Numbers

@@ -9,7 +9,7 @@ use lib.ListN.{length, length-append}
 use lib.Seq.{sets}
 use Rattle.kit.specs.Word.{wordAt, bytesOf}
 use Rattle.kit.proofs.Lists.{each}
-use Rattle.memory.proofs.Stores.{sets-append}
+use Rattle.kit.proofs.Stores.{sets-append}
 use Rattle.listing.specs.declared.word.Word.{Word}
 use Rattle.listing.specs.declared.word.Word.the-variants.{Set, Memory, Window, Write, Read, NoRead, Bus, Fetch, Move, Fault, Update, Halt, Stop, Bad}
 use Rattle.listing.specs.Word.{blank, wordOf, spacedOf, eightOf}

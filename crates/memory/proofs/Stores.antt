@@ -36,14 +36,6 @@ module _ {ℓ} {A : Type ℓ} where
       ap (λ (k : ℕ). getD (sets (set m i v) (suc i) vs) k d) (add-suc i j ∙ sym (suc-add i j))
       ∙ sets-inside (set m i v) (suc i) vs j d (omega arith) (simp length-set (omega arith))
 
-  -- ---- one run after another
-
-  pub sets-append : (m : List A) (i : ℕ) (us vs : List A) → sets m i (us ++ vs) ≡ sets (sets m i us) (i + length us) vs
-  sets-append m i [] vs = ap (λ (k : ℕ). sets m k vs) (sym (add-zero i))
-  sets-append m i (u ∷ us) vs =
-      sets-append (set m i u) (suc i) us vs
-      ∙ ap (λ (k : ℕ). sets (sets (set m i u) (suc i) us) k vs) (suc-add i (length us) ∙ sym (add-suc i (length us)))
-
   -- ---- parts
 
   -- what was stored is read back

@@ -1,15 +1,16 @@
 -- Laws of `cut`: it stops at the end, it takes one burst and goes on, and what each step keeps holds of the whole.
 use mathlib.Core.Path.{_≡_, refl, sym, ap, subst, _∙_}
-use Prim.Native.Nat.{ℕ, zero, suc, _-_, _≤_, _<_}
+use Prim.Native.Nat.{ℕ, zero, suc, _-_, _%_, _≤_, _<_}
 use mathlib.Core.Bool.{true, false}
-use mathlib.Core.List.{List, [], _∷_}
+use mathlib.Core.List.{List, [], _∷_, _++_}
 use mathlib.Core.Logic.{_⊎_, inl, inr}
 use lib.Dec.{ltb}
+use lib.ListN.{length}
 use native.Mathlib.Omega.{arith}
 use borrow.Author.Tests.{lt-ltb, le-ltb, ltb-true, ltb-false}
 use Rattle.kit.proofs.Choice.{decide}
 use Rattle.cut.specs.declared.Burst.{Burst}
-use Rattle.cut.specs.Cut.{burstEnd, burst, cutWithin, cut}
+use Rattle.cut.specs.Cut.{page, reach, burstEnd, burst, cutWithin, cut}
 use Rattle.cut.proofs.Reach.{ends}
 
 module _ (w l : ℕ) where
@@ -69,3 +70,18 @@ module _ (w l : ℕ) where
             turn f (inr t) =
                 let i = ltb-false a e t in
                 subst (P a) (sym (cut-stop a e i)) (stop a i)
+
+    -- no burst crosses the start of a page: the bytes before it and those from it on are cut apart
+    pub cut-join : (p e : ℕ) → p % page ≡ 0 → p ≤ e → (a : ℕ) → a ≤ p → cut w l a e ≡ cut w l a p ++ cut w l p e
+    unfolding burstEnd reach
+    cut-join p e start h = cut-ind p (λ a bs. a ≤ p → cut w l a e ≡ bs ++ cut w l p e)
+        (λ a i j. ap (λ (x : ℕ). cut w l x e) (omega arith))
+        λ a i below j.
+        let q = ends w l pw pl a p i in
+        let same : burstEnd w l a e ≡ burstEnd w l a p = omega arith in
+        cut-step a e (omega arith) ∙ ap (λ (x : ℕ). burst a x ∷ cut w l x e) same
+        ∙ ap (λ (bs : List Burst). burst a (burstEnd w l a p) ∷ bs) (below (q .within))
+
+    -- each burst has a byte at least
+    pub cut-few : (a e : ℕ) → length (cut w l a e) ≤ e - a
+    cut-few a e = cut-ind e (λ x bs. length bs ≤ e - x) (λ x h. omega arith) (λ x h below. let p = ends w l pw pl x e h in omega arith) a

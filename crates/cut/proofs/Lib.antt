@@ -1,4 +1,5 @@
 pub mod Reach
 pub mod Cutting
 pub mod Shortest
+pub mod Count
 pub mod Claims

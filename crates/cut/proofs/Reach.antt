@@ -51,7 +51,7 @@ module _ (w l : ℕ) where
         let inside : (b - 1) / w < a / w + l = omega (arith, legal .words) in
         omega (arith, legal .some, legal .samePage, div-lt-iff-lt-mul pw .0 inside)
 
-    whole : (n : ℕ) → n % w ≡ 0 → n ≡ n / w * w
+    pub whole : (n : ℕ) → n % w ≡ 0 → n ≡ n / w * w
     whole n d = omega (arith, div-add-mod' n w)
 
     -- if pages hold whole words, a burst that stops short of the transfer's end stops at the start of a word

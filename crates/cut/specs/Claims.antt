@@ -1,7 +1,9 @@
 -- What the definitions of this crate have to imply: proved in proofs/Claims.antt.
 use Prim.Native.Nat.{ℕ, _-_, _*_, _%_, _≤_, _<_}
 use mathlib.Core.Path.{_≡_}
-use Rattle.cut.specs.Cut.{cut, bytesWithin, burstBytes}
+use lib.ListN.{length}
+use Rattle.cut.specs.Cut.{page, cut, bytesWithin, burstBytes}
+use Rattle.cut.specs.Count.{pageCount, pagesCount, countOf}
 use Rattle.cut.specs.Legal.{WellCut}
 
 pub record Claims : Type 0 where
@@ -9,6 +11,10 @@ pub record Claims : Type 0 where
   pub well-cut : (w l : ℕ) → 0 < w → 0 < l → (a e : ℕ) → a ≤ e → WellCut w l a e (cut w l a e)
   -- a burst's bytes are the least of: what is left of the page, of the words that a burst may touch, and of the transfer
   pub lengths : (w l a n : ℕ) → bytesWithin (w * l - a % w) a n ≡ burstBytes w l a n
+  -- the number of bursts follows from pages and words, for every width and number of beats above 0
+  pub counted : (w l : ℕ) → 0 < w → 0 < l → (a e : ℕ) → length (cut w l a e) ≡ countOf w l a e
+  -- and if a page has whole words, as with every legal width, all whole pages take the same number: one product for all of them
+  pub whole-pages : (w l : ℕ) → 0 < w → page % w ≡ 0 → (n p : ℕ) → pagesCount w l n p ≡ n * pageCount w l 0 page
 
 -- two results that one contract allows are equal
 pub record Unique : Type 0 where

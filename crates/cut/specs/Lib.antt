@@ -1,3 +1,4 @@
 pub mod Cut
 pub mod Legal
+pub mod Count
 pub mod Claims

@@ -24,6 +24,10 @@ module _ (w l : ℕ) (e : legalSettings w l ≡ true) where
   unfolding legalBeats
   beats-has P a = among-each P l beatCounts a (both-right (legalWidth w) (legalBeats l) e)
 
+  -- what holds of each width with each number of beats
+  pub settings-have : (P : ℕ → ℕ → Bool) → each (λ l′. each (λ w′. P w′ l′) widths) beatCounts ≡ true → P w l ≡ true
+  settings-have P a = width-has (λ w′. P w′ l) (beats-has (λ l′. each (λ w′. P w′ l′) widths) a)
+
   pub legal : Legal w l
   legal = record {
     width-positive = ltb-true 0 w (width-has (λ x. ltb 0 x) refl);

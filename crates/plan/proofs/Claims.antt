@@ -19,17 +19,10 @@ use Rattle.plan.specs.declared.measure.Planned.{Planned}
 use Rattle.plan.specs.Plan.{Measured, measureOf, placesOf, Plan, written, seen}
 use Rattle.plan.specs.Claims.{burstsIn, burstsInBytes, WellPlanned, Unchanged, Claims, Unique}
 use Rattle.plan.proofs.Planning.{Planable, planable, refused-none}
-use Rattle.plan.proofs.Filling.{little}
+use Rattle.plan.proofs.Counting.{count-fits}
+use Rattle.plan.proofs.Filling.{little, places-coding, little-coding}
 
 -- ---- bursts read back from what is written
-
-places-length : (bursts : List Burst) → length (placesOf bursts) ≡ 2 * length bursts
-places-length [] = refl
-places-length (b ∷ more) = let p = places-length more in omega arith
-
-little-length : (bursts : List Burst) → length (little bursts) ≡ 8 * length bursts
-little-length [] = refl
-little-length (b ∷ more) = let p = little-length more in omega arith
 
 places-back : (bursts : List Burst) (after : List ℕ) → burstsIn (length bursts) (placesOf bursts ++ after) ≡ bursts
 places-back [] after = refl
@@ -98,14 +91,15 @@ pub plan-claims : Claims
 plan-claims = record {
   plan = λ w l start count places e.
       let p = planable w l start count (length places) e in
-      well-planned placesOf burstsIn 2 w l start count (length places) places p places-length
+      well-planned placesOf burstsIn 2 w l start count (length places) places p (places-coding .sized)
       (λ _ after. places-back (cut w l start (start + count)) after) (p .fits);
   plan-bytes = λ w l start count places e.
       let p = planable w l start count (length places / 4) e in
-      well-planned little burstsInBytes 8 w l start count (length places / 4) places p little-length
+      well-planned little burstsInBytes 8 w l start count (length places / 4) places p (little-coding .sized)
       (λ t after. little-back start (start + count) (p .range .inside) (let r = p .range in omega arith) (cut w l start (start + count)) t after) (let f = p .fits in omega arith);
   plan-refused = λ w l start count places h. unchanged w l start count (length places) (placesOf (cut w l start (start + count))) places h;
   plan-bytes-refused = λ w l start count places h. unchanged w l start count (length places / 4) (little (cut w l start (start + count))) places h;
+  count = λ w l start count room. count-fits w l start count room;
 }
 
 -- ---- uniqueness
@@ -125,6 +119,7 @@ pub plan-unique : Unique
 unfolding bare
 plan-unique = record {
   measure = λ w l start count room p q e f. same-plan (ap bare e) (ap bare f) .0;
+  count = λ w l start count p q e f. same-plan (ap bare e) (ap bare f) .0;
   plan = λ w l start count places a b p q e f. same-plan e f;
   plan-bytes = λ w l start count places a b p q e f. same-plan e f;
 }

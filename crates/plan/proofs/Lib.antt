@@ -1,4 +1,5 @@
 pub mod Planning
-pub mod Walking
+pub mod Counting
+pub mod Strides
 pub mod Filling
 pub mod Claims

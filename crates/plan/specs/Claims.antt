@@ -3,11 +3,13 @@ use Prim.Native.Nat.{ℕ, zero, suc, _+_, _*_, _≤_}
 use mathlib.Core.Path.{_≡_}
 use mathlib.Core.List.{List, [], _∷_}
 use lib.ListN.{length, getD, drop}
+use lib.Dec.{ltb}
+use Rattle.kit.specs.Choice.{when}
 use Rattle.kit.specs.Word.{wordAt}
 use Rattle.cut.specs.declared.Burst.{Burst}
 use Rattle.cut.specs.Legal.{WellCut}
 use Rattle.plan.specs.declared.measure.Planned.{Planned}
-use Rattle.plan.specs.Plan.{measureOf, measured, Plan, planOf, planBytesOf, seen}
+use Rattle.plan.specs.Plan.{Measured, refusal, measureOf, countedOf, measured, Plan, planOf, planBytesOf, seen}
 
 -- the bursts that the first places hold, two places each: start, byte count
 abbrev pub burstsIn : ℕ → List ℕ → List Burst
@@ -32,6 +34,10 @@ pub record Unchanged (p : Plan) (before : List ℕ) : Type 0 where
   pub none : p .bursts ≡ 0
   pub kept : p .places ≡ before
 
+-- what a count says of a plan with `room` places: too few, answer 8; else what the count has
+abbrev pub fitted : Measured → ℕ → Measured
+fitted m room = when (ltb room (2 * m .bursts)) (refusal 8) m
+
 pub record Claims : Type 0 where
   -- every plan that is not refused, for every width, beats, start, count and lent slice
   pub plan : (w l start count : ℕ) (places : List ℕ)
@@ -46,11 +52,14 @@ pub record Claims : Type 0 where
       → let p = planOf w l start count places in (p .answer ≡ 0 → ⊥) → Unchanged p places
   pub plan-bytes-refused : (w l start count : ℕ) (places : List ℕ)
       → let p = planBytesOf w l start count places in (p .answer ≡ 0 → ⊥) → Unchanged p places
+  -- RULES.md 3.4: a plan has the bursts that its count says, and lacks room exactly if that many do not fit
+  pub count : (w l start count room : ℕ) → measureOf w l start count room ≡ fitted (countedOf w l start count) room
 
 -- two results that one contract allows are equal, and so are the slices they leave
 pub record Unique : Type 0 where
   pub measure : (w l start count room : ℕ) (p q : Planned) → measured p ≡ measureOf w l start count room
       → measured q ≡ measureOf w l start count room → p ≡ q
+  pub count : (w l start count : ℕ) (p q : Planned) → measured p ≡ countedOf w l start count → measured q ≡ countedOf w l start count → p ≡ q
   pub plan : (w l start count : ℕ) (places a b : List ℕ) (p q : Planned) → seen p a ≡ planOf w l start count places
       → seen q b ≡ planOf w l start count places → (p ≡ q) × (a ≡ b)
   pub plan-bytes : (w l start count : ℕ) (places a b : List ℕ) (p q : Planned) → seen p a ≡ planBytesOf w l start count places

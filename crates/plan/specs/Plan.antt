@@ -12,6 +12,7 @@ use Rattle.kit.specs.Answer.{numberOf}
 use Rattle.kit.specs.Word.{bytesOf}
 use Rattle.cut.specs.declared.Burst.{Burst}
 use Rattle.cut.specs.Cut.{cut}
+use Rattle.cut.specs.Count.{countOf}
 use Rattle.plan.specs.declared.measure.Planned.{Planned}
 
 -- a plan of 0 or too many bytes, or one that leaves the addresses: answer 7
@@ -32,6 +33,13 @@ measureOf w l start count room =
     let bursts = length (cut w l start (start + count)) in
     when (legalSettings w l)
     (when (outOfRange start count) (refusal 7) (when (ltb room (2 * bursts)) (refusal 8) (record { answer = 0; bursts = bursts })))
+    (refusal 1)
+
+-- RULES.md 3.4: answers 1 and 7 in their order; else done, with the number of bursts, worked out by division
+unfoldable pub countedOf : ℕ → ℕ → ℕ → ℕ → Measured
+countedOf w l start count =
+    when (legalSettings w l)
+    (when (outOfRange start count) (refusal 7) (record { answer = 0; bursts = countOf w l start (start + count) }))
     (refusal 1)
 
 -- each burst's start and byte count, in turn

@@ -1,13 +1,14 @@
 // RULES.md, "Cutting a transfer": the plan of a transfer in a lent slice of numbers, or of bytes.
 mod fill;
+mod layout;
 pub mod measure;
-mod walk;
 
 use kit::answer::number;
+use kit::limits::MOST_BYTES;
 use measure::Planned;
 use measure::measure;
 ghost use mathlib.Core.Path.{_≡_};
-ghost use Rattle.plan.specs.Plan.{planOf, planBytesOf, seen};
+ghost use Rattle.plan.specs.Plan.{planOf, planBytesOf, countedOf, seen, measured};
 
 // Writes the transfer's bursts to `places`, start and byte count in turn, and gives their number.
 pub fn plan(width: u32, beats: u32, start: u32, count: u32, places: &mut [u32]) -> Planned
@@ -31,4 +32,12 @@ pub fn plan_bytes(width: u32, beats: u32, start: u32, count: u32, places: &mut [
         fill::bytes(width, beats, start, count, places);
     }
     planned
+}
+
+// The number of bursts of a plan, without it, so a caller knows how many places to lend. A burst has a byte at least: with
+// room for as many bursts as a plan can have bytes none is refused for want of room.
+pub fn count(width: u32, beats: u32, start: u32, count: u32) -> Planned
+    ensures { λ r. ⌜ measured r ≡ countedOf width beats start count ⌝ }
+{
+    measure(width, beats, start, count, 2 * MOST_BYTES as usize)
 }

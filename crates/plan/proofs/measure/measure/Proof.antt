@@ -31,7 +31,8 @@ returns-2 c = yes _ (legal-at (c .before .before)) (yes _ (sym (c .before .out-o
 count-bursts-requires : tie.Need-count-bursts-requires
 count-bursts-requires c κs =
     let a = c .before .before .before .before .args in
-    (legal-at (c .before .before), in-range (a .start) (a .count) (range-at c) .inside)
+    let r = in-range (a .start) (a .count) (range-at c) in
+    (legal-at (c .before .before), (r .some, r .few))
 
 returns-3 : tie.Need-returns-3
 unfolding measureOf

@@ -1,0 +1,66 @@
+// How a transfer's bursts lie. The first one starts anywhere and ends at the end of a word. Those that are left of its page
+// and those of the pages behind start a stride apart, so their number comes by division.
+use cut::PAGE;
+use cut::burst_bytes;
+use cut::span;
+ghost use mathlib.Core.Path.{_≡_};
+ghost use mathlib.Core.Bool.{true};
+ghost use Prim.Native.Nat.{_+_, _-_, _/_, _%_, _≤_, _<_, _^_, min};
+ghost use lib.Count.{trailingZeros};
+ghost use lib.ListN.{length};
+ghost use Rattle.kit.specs.Limits.{addressEnd, mostBytes};
+ghost use Rattle.kit.specs.Settings.{legalSettings};
+ghost use Rattle.cut.specs.Cut.{page, cut};
+ghost use Rattle.plan.specs.Layout.{strideOf};
+
+// The bytes of the words that a burst may touch, or a page if that is less. With legal settings pages are whole strides.
+pub fn stride(width: u32, beats: u32) -> u32
+    ensures { λ r. ⌜ r ≡ strideOf width beats ⌝ }
+{
+    let words = span(width, beats);
+    if words < PAGE {
+        words as u32
+    } else {
+        PAGE as u32
+    }
+}
+
+// How many bytes of a transfer are in the page that it starts in.
+pub fn in_page(start: u32, count: u32) -> u32
+    ensures { λ r. ⌜ r ≡ min (page - start % page) count ⌝ }
+{
+    let left = PAGE as u32 - start % PAGE as u32;
+    if left < count { left } else { count }
+}
+
+// A division by a stride, which is a power of two: to shift costs a tenth of it.
+pub fn divide(bytes: u32, stride: u32) -> u32
+    requires { ⌜ 2 ^ trailingZeros 32 stride ≡ stride ⌝ }
+    ensures { λ r. ⌜ r ≡ bytes / stride ⌝ }
+{
+    bytes >> u32::trailing_zeros(stride)
+}
+
+// How many bursts take these bytes, if the first starts at a word and all but the last have a stride's bytes.
+fn pieces(bytes: u32, stride: u32) -> u32
+    requires { ⌜ 0 < stride ⌝ }
+    requires { ⌜ 2 ^ trailingZeros 32 stride ≡ stride ⌝ }
+    requires { ⌜ bytes ≤ mostBytes ⌝ }
+    requires { ⌜ stride ≤ page ⌝ }
+    ensures { λ r. ⌜ r ≡ (bytes + (stride - 1)) / stride ⌝ }
+{
+    divide(bytes + (stride - 1), stride)
+}
+
+// The number of bursts of a transfer: the first, those left of its page, and those of the pages behind.
+pub fn count_bursts(width: u32, beats: u32, start: u32, count: u32) -> u32
+    requires { ⌜ legalSettings width beats ≡ true ⌝ }
+    requires { ⌜ 0 < count ⌝ }
+    requires { ⌜ count ≤ mostBytes ⌝ }
+    ensures { λ r. ⌜ r ≡ length (cut width beats start (start + count)) ⌝ }
+{
+    let stride = stride(width, beats);
+    let first = burst_bytes(width, beats, start as u64, count);
+    let here = in_page(start, count);
+    1 + pieces(here - first, stride) + pieces(count - here, stride)
+}

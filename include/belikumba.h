@@ -42,7 +42,7 @@ enum belikumba_answer {
     BELIKUMBA_ERROR_SET = 5,    /* write ignored: an error bit is set */
     BELIKUMBA_WINDOW_COUNT = 6, /* more than 16 windows */
     BELIKUMBA_PLAN_RANGE = 7,   /* count 0 or above 8,388,607, or start + count above 2^32 */
-    BELIKUMBA_PLAN_ROOM = 8,    /* the plan needs more places than were lent */
+    BELIKUMBA_PLAN_ROOM = 8,    /* the plan needs more places than were lent: belikumba_count says how many bursts it has */
     BELIKUMBA_STATE = 9,        /* the words are not those of a well-formed engine, or of no monitor */
     BELIKUMBA_CLOCK = 13        /* a field of the bus clock is out of range */
 };
@@ -50,8 +50,8 @@ enum belikumba_answer {
 /* ---- Plan (RULES.md 3) ---- */
 
 struct belikumba_planned {
-    uint32_t answer; /* 0, 1, 7 or 8 */
-    uint32_t bursts; /* the number of bursts written; 0 if the answer is not 0 */
+    uint32_t answer; /* 0, 1, 7, or of a plan alone 8 */
+    uint32_t bursts; /* the number of bursts; 0 if the answer is not 0 */
 };
 
 /*
@@ -70,7 +70,7 @@ struct belikumba_planned {
  *
  *     1    width or beats is not one of those listed above
  *     7    count is 0 or above 8,388,607, or start + count is above 2^32 (equal to 2^32 is allowed)
- *     8    length / 4 is less than twice the number of bursts; how many are needed is not said
+ *     8    length / 4 is less than twice the number of bursts; belikumba_count, below, says how many there are
  *     0    done
  *
  * On 0, the first 8 * bursts bytes are written and those past them keep what they held. On 1, 7 and 8 all `length`
@@ -78,6 +78,18 @@ struct belikumba_planned {
  */
 struct belikumba_planned belikumba_plan(uint32_t width, uint32_t beats, uint32_t start, uint32_t count, uint8_t *places,
                                         size_t length);
+
+/*
+ * The number of bursts of the same transfer, without its plan: lent 8 * bursts bytes, belikumba_plan answers 0 and writes
+ * that many. It is worked out by division: its time does not grow with the number of bursts.
+ *
+ * The answer is the first of these that holds; 8 is none of them, since nothing is lent:
+ *
+ *     1    width or beats is not one of those listed above
+ *     7    count is 0 or above 8,388,607, or start + count is above 2^32 (equal to 2^32 is allowed)
+ *     0    done
+ */
+struct belikumba_planned belikumba_count(uint32_t width, uint32_t beats, uint32_t start, uint32_t count);
 
 /* ---- Registers (RULES.md 5) ---- */
 

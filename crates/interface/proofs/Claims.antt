@@ -7,6 +7,9 @@ unique = record {
   plan = λ x r q a b e f.
       let same = e ∙ sym f in
       (λ i. record { answer = same i .answer; bursts = same i .bursts }, λ i. same i .places);
+  count = λ x r q e f.
+      let same = e ∙ sym f in
+      λ i. record { answer = same i .answer; bursts = same i .bursts };
   value = λ x r q e f.
       let same = e ∙ sym f in
       λ i. record { answer = same i .answer; value = same i .value };

@@ -1,4 +1,4 @@
-// The cutter: a transfer cut into legal bursts, each as long as is legal.
+// The cutter: a transfer cut into legal bursts, each as long as is legal, and their number.
 // From RULES.md, "Cutting a transfer".
 
 use crate::answer;
@@ -66,6 +66,19 @@ fn stretches(width: u32, beats: u32, start: u32, count: u32) -> [Stretch; 2] {
     ]
 }
 
+/// Why a plan is refused before its places are looked at, and a count at all: 1, 7, in this order.
+#[inline]
+fn refusal(width: u32, beats: u32, start: u32, count: u32) -> Option<u32> {
+    if !answer::settings_listed(width, beats) {
+        return Some(answer::SETTINGS);
+    }
+    // Reading: start + count equal to 2^32 is allowed.
+    if count == 0 || count > LONGEST || u64::from(start) + u64::from(count) > 1 << 32 {
+        return Some(answer::PLAN);
+    }
+    None
+}
+
 /// Plans into lent places of one burst each.
 #[inline]
 fn plan_into<Place>(
@@ -76,13 +89,8 @@ fn plan_into<Place>(
     places: &mut [Place],
     place: impl Fn(u32, u32) -> Place,
 ) -> (u32, u32) {
-    // The refusals in their order 1, 7, 8.
-    if !answer::settings_listed(width, beats) {
-        return (answer::SETTINGS, 0);
-    }
-    // Reading: start + count equal to 2^32 is allowed.
-    if count == 0 || count > LONGEST || u64::from(start) + u64::from(count) > 1 << 32 {
-        return (answer::PLAN, 0);
+    if let Some(answer) = refusal(width, beats, start, count) {
+        return (answer, 0);
     }
     let [first_page, later_pages] = stretches(width, beats, start, count);
     let (here, later) = (first_page.bursts(), later_pages.bursts());
@@ -111,6 +119,36 @@ pub fn plan_bytes(width: u32, beats: u32, start: u32, count: u32, places: &mut [
     plan_into(width, beats, start, count, pairs, |at, bytes| {
         (u64::from(at) | u64::from(bytes) << 32).to_le_bytes()
     })
+}
+
+/// Bursts of the bytes from `from` up to, not including, `to`, at least one, all in one page: the
+/// words that they touch, divided by `beats` and rounded up. Shifts divide by powers of two.
+#[inline]
+fn bursts_in_page(width: u32, beats: u32, from: u32, to: u32) -> u32 {
+    let word = |byte: u32| byte >> width.trailing_zeros();
+    let words = word(to - 1) - word(from) + 1;
+    (words + beats - 1) >> beats.trailing_zeros()
+}
+
+/// The answer and the number of bursts of the same plan, without it: those of the first page, of
+/// each whole page between, and of the last page. The plan's own sum goes by other parts, so that
+/// each can be compared with the other.
+pub fn count(width: u32, beats: u32, start: u32, count: u32) -> (u32, u32) {
+    if let Some(answer) = refusal(width, beats, start, count) {
+        return (answer, 0);
+    }
+    // Counted from the first page's start on, so nothing can pass 2^32.
+    let from = start % PAGE;
+    let to = from + count;
+    let bursts_of = |from, to| bursts_in_page(width, beats, from, to);
+    // Reading: a page that is both the first and the last counts once.
+    if to <= PAGE {
+        return (answer::DONE, bursts_of(from, to));
+    }
+    let pages_between = (to - 1) / PAGE - 1;
+    let last_page_end = (to - 1) % PAGE + 1;
+    let between = pages_between * bursts_of(0, PAGE);
+    (answer::DONE, bursts_of(from, PAGE) + between + bursts_of(0, last_page_end))
 }
 
 /// The definition itself: is the burst from `from` up to, not including, `to` legal?

@@ -1,18 +1,24 @@
 // Tests of the cutter: RULES.md, "Cutting a transfer", P1 to P8, and answers 1, 7 and 8.
-// The plan against the brute plan, over all settings.
+// The plan and its count against the brute plan, over all settings; count.rs has more of the count.
 
 use independent::answer;
-use independent::cut::{brute_plan, plan, plan_bytes, LONGEST};
+use independent::cut::{self, brute_plan, plan, plan_bytes, LONGEST};
 use shared::random::Random;
 use shared::settings::{BEATS, WIDTHS};
 
 const MARK: u32 = 0xa5a5_5a5a;
 
-/// A plan with ample room, through both forms, with the untouched places checked.
+/// A plan with ample room, through both forms, with the untouched places checked; and its number
+/// of bursts as the count has it.
 fn planned(width: u32, beats: u32, start: u32, count: u32) -> Vec<(u32, u32)> {
     let mut probe = vec![MARK; 2 * (count as usize / 2 + 8)];
     let (answer, bursts) = plan(width, beats, start, count, &mut probe);
     assert_eq!(answer, 0);
+    assert_eq!(
+        cut::count(width, beats, start, count),
+        (0, bursts),
+        "{width} {beats} {start} {count}"
+    );
     let used = 2 * bursts as usize;
     assert!(probe[used..].iter().all(|&place| place == MARK));
     let mut bytes = vec![0x5a; 4 * used + 7];
@@ -153,6 +159,7 @@ fn plan_is_brute_plan_at_every_edge() {
                             );
                         } else {
                             assert_eq!(plan(width, beats, start, count, &mut [0; 9]).0, 7);
+                            assert_eq!(cut::count(width, beats, start, count), (7, 0));
                         }
                     }
                     // Up to the very top.

@@ -3,5 +3,7 @@
 
 int main() {
     belikumba_planned planned = belikumba_plan(4, 16, 0, 0, 0, 0);
-    return planned.answer == BELIKUMBA_PLAN_RANGE && planned.bursts == 0 ? 0 : 1;
+    belikumba_planned counted = belikumba_count(4, 16, 4088, 16);
+    bool refused = planned.answer == BELIKUMBA_PLAN_RANGE && planned.bursts == 0;
+    return refused && counted.answer == BELIKUMBA_DONE && counted.bursts == 2 ? 0 : 1;
 }

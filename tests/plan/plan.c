@@ -1,6 +1,7 @@
 /*
  * Compares belikumba_plan with a cutter written here from docs/RULES.md 3 alone: the answer, the number of bursts and
- * every lent byte. Each plan is made with room to spare, with just enough, and with too little.
+ * every lent byte. Each plan is made with room to spare, with just enough, and with too little. The number that
+ * belikumba_count gives is compared with the cutter's, which walks from burst to burst.
  *
  * The lent bytes end or start at a page that may not be touched, and the bytes on their other side are watched.
  */
@@ -109,6 +110,8 @@ static struct {
     uint64_t bytes;
     uint64_t bursts;
     uint64_t answers[9];
+    uint64_t counts;
+    uint64_t count_answers[9];
 } compared;
 
 static void cut(struct transfer t) {
@@ -125,18 +128,21 @@ static void cut(struct transfer t) {
     }
 }
 
-/* Answers in the order of RULES.md 2.2: 1, 7, 8. To be called after cut(). */
-static uint32_t answer_of(struct transfer t, size_t length) {
+/* Answers of a count in the order of RULES.md 2.2: 1, 7. */
+static uint32_t count_answer_of(struct transfer t) {
     if (!settings_listed(t)) {
         return 1;
     }
-    if (!in_range(t)) {
-        return 7;
+    return in_range(t) ? 0 : 7;
+}
+
+/* Answers of a plan, in the order 1, 7, 8. To be called after cut(). */
+static uint32_t answer_of(struct transfer t, size_t length) {
+    uint32_t answer = count_answer_of(t);
+    if (answer != 0) {
+        return answer;
     }
-    if (length / 4 < 2 * burst_count) {
-        return 8;
-    }
-    return 0;
+    return length / 4 < 2 * burst_count ? 8 : 0;
 }
 
 static void put_place(uint8_t *bytes, uint64_t number) {
@@ -188,15 +194,30 @@ static void fill_alike(uint8_t *one, uint8_t *other, size_t length) {
     }
 }
 
+static void name_transfer(struct transfer t) {
+    fprintf(stderr, "tests/plan: width %" PRIu32 " beats %" PRIu32 " start %" PRIu32 " count %" PRIu32, t.width, t.beats, t.start,
+            t.count);
+}
+
 static void name_call(struct transfer t, size_t length) {
-    fprintf(stderr, "tests/plan: width %" PRIu32 " beats %" PRIu32 " start %" PRIu32 " count %" PRIu32 ", %zu bytes lent: ", t.width,
-            t.beats, t.start, t.count, length);
+    name_transfer(t);
+    fprintf(stderr, ", %zu bytes lent: ", length);
+}
+
+static void fail_with(const char *what, uint64_t wanted_number, uint64_t seen_number) {
+    fprintf(stderr, "%s is %" PRIu64 " and should be %" PRIu64 "\n", what, seen_number, wanted_number);
+    exit(1);
 }
 
 static void fail(struct transfer t, size_t length, const char *what, uint64_t wanted_number, uint64_t seen_number) {
     name_call(t, length);
-    fprintf(stderr, "%s is %" PRIu64 " and should be %" PRIu64 "\n", what, seen_number, wanted_number);
-    exit(1);
+    fail_with(what, wanted_number, seen_number);
+}
+
+static void fail_count(struct transfer t, const char *what, uint64_t wanted_number, uint64_t seen_number) {
+    name_transfer(t);
+    fputs(", counted: ", stderr);
+    fail_with(what, wanted_number, seen_number);
 }
 
 /* The call under way, to be named if it does not come back. */
@@ -277,6 +298,25 @@ static void check(struct transfer t, size_t length) {
     check_at(t, length, false);
 }
 
+/* One count, which is lent nothing. */
+static void check_counted(struct transfer t, uint32_t answer, uint64_t number) {
+    struct belikumba_planned counted = belikumba_count(t.width, t.beats, t.start, t.count);
+    if (counted.answer != answer) {
+        fail_count(t, "the answer", answer, counted.answer);
+    }
+    if (counted.bursts != number) {
+        fail_count(t, "the number of bursts", number, counted.bursts);
+    }
+    compared.counts++;
+    compared.count_answers[answer]++;
+}
+
+/* The count of the transfer that was cut last. To be called after cut(), unless the transfer is refused. */
+static void check_count(struct transfer t) {
+    uint32_t answer = count_answer_of(t);
+    check_counted(t, answer, answer == 0 ? burst_count : 0);
+}
+
 /* ---- The plans ---- */
 
 /* Room for nothing, too little by a byte, a place or a burst, just enough, and more, also by less than a place. */
@@ -286,6 +326,7 @@ static void check_rooms(struct transfer t) {
     } else {
         burst_count = 0;
     }
+    check_count(t);
     size_t enough = 8 * burst_count;
     size_t near = enough > 8 ? enough - 8 : 0;
     for (size_t length = 0; length < near && length <= 8; length++) {
@@ -340,6 +381,9 @@ static void check_worked_cases(void) {
                 fail(t, length, "a place of the worked case", number, place_at(lent + 4 * place));
             }
         }
+        if (cases[i].answer != 8) {
+            check_counted(t, cases[i].answer, cases[i].bursts);
+        }
         check_rooms(t);
     }
 }
@@ -352,14 +396,19 @@ static void check_settings(void) {
         for (uint32_t j = 0; j < 300 + ARRAY_LENGTH(large); j++) {
             uint32_t beats = j < 300 ? j : large[j - 300];
             struct transfer good = transfer(width, beats, 4090, 70);
+            struct transfer empty = transfer(width, beats, 4090, 0);
+            struct transfer outside = transfer(width, beats, UINT32_MAX, 2);
             if (settings_listed(good)) {
                 continue; /* every plan below has these */
             }
             burst_count = 0;
             check_at(good, 64, (i + j) % 2 == 0);
             check_at(good, 0, true);
-            check_at(transfer(width, beats, 4090, 0), 64, (i + j) % 2 == 1);
-            check_at(transfer(width, beats, UINT32_MAX, 2), 7, true);
+            check_at(empty, 64, (i + j) % 2 == 1);
+            check_at(outside, 7, true);
+            check_count(good);
+            check_count(empty);
+            check_count(outside);
         }
     }
 }
@@ -423,6 +472,7 @@ static void check_long(uint32_t width, uint32_t beats) {
         uint64_t count = i % 2 == 0 ? most_bytes : most_bytes - random_below(page_bytes);
         struct transfer t = transfer(width, beats, starts[i], count);
         cut(t);
+        check_count(t);
         size_t enough = 8 * burst_count;
         check_at(t, enough, true);
         check_at(t, enough + 7, false);
@@ -470,8 +520,11 @@ int main(void) {
     printf("plan: %" PRIu64 " calls on %" PRIu64 " transfers gave the answer, the count and each of the %" PRIu64
            " lent bytes that docs/RULES.md says\n"
            "plan: %" PRIu64 " plans of %" PRIu64 " bursts in all, legal and each following the last; answer 1 %" PRIu64
-           " times, 7 %" PRIu64 " times, 8 %" PRIu64 " times\n",
+           " times, 7 %" PRIu64 " times, 8 %" PRIu64 " times\n"
+           "plan: %" PRIu64 " counts gave the answer and the number of bursts of the cutter that walks; answer 0 %" PRIu64
+           " times, 1 %" PRIu64 " times, 7 %" PRIu64 " times\n",
            compared.calls, compared.transfers, compared.bytes, compared.answers[0], compared.bursts, compared.answers[1],
-           compared.answers[7], compared.answers[8]);
+           compared.answers[7], compared.answers[8], compared.counts, compared.count_answers[0], compared.count_answers[1],
+           compared.count_answers[7]);
     return 0;
 }

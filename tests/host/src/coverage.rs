@@ -16,6 +16,7 @@ use crate::spoil::KINDS;
 #[derive(Clone, Copy)]
 pub enum Function {
     Plan,
+    Count,
     Read,
     Write,
     InterruptLine,
@@ -25,8 +26,9 @@ pub enum Function {
 }
 
 /// The functions in the order of `Function`, each with the answers it can give.
-const FUNCTIONS: [(&str, &[u32]); 7] = [
+const FUNCTIONS: [(&str, &[u32]); 8] = [
     ("plan", &[0, 1, 7, 8]),
+    ("count", &[0, 1, 7]),
     ("read", &[0, 1, 3, 9]),
     ("write", &[0, 1, 3, 4, 5, 9]),
     ("interrupt_line", &[0, 1, 9]),
@@ -36,8 +38,9 @@ const FUNCTIONS: [(&str, &[u32]); 7] = [
 ];
 
 /// For each function, which answers were given where which other refusal held too.
-const BESIDE: [&[(u32, u32)]; 7] = [
+const BESIDE: [&[(u32, u32)]; 8] = [
     &[(1, 7), (1, 8), (7, 8)],
+    &[(1, 7)],
     &[(1, 9), (1, 3), (9, 3)],
     &[(1, 9), (1, 3), (9, 3), (5, 4)],
     &[(1, 9)],
@@ -64,7 +67,7 @@ pub struct Coverage {
     answers: BTreeMap<(usize, u32), u64>,
     beside: BTreeMap<(usize, u32, u32), u64>,
     /// Calls that were done, by function, width and beats.
-    settings: [BySettings; 7],
+    settings: [BySettings; 8],
     /// Calls of `interrupt_line` by IOC_Irq, IOC_IrqEn, Err_Irq and Err_IrqEn.
     pub lines: [u64; 16],
     /// The lowest flag that was reported.
@@ -101,7 +104,7 @@ impl Coverage {
             counts: Counts::new(NUMBERED, names),
             answers: answers.map(|row| (row, 0)).collect(),
             beside: beside.map(|row| (row, 0)).collect(),
-            settings: [[[0; 8]; 6]; 7],
+            settings: [[[0; 8]; 6]; 8],
             lines: [0; 16],
             lowest: [0; 64],
             spoiled: [[0; 5]; KINDS.len()],

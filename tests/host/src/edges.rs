@@ -3,6 +3,7 @@
 // every function.
 
 use crate::clocks::any_clock;
+use crate::counts::count;
 use crate::coverage::Coverage;
 use crate::engine_desk::{Call, EngineDesk};
 use crate::monitor_desk::MonitorDesk;
@@ -157,7 +158,9 @@ pub fn settings(random: &mut Random, coverage: &mut Coverage) -> Result<(), Stri
         words[..2].copy_from_slice(&[width, beats]);
         every_call(&mut desk, &words, coverage)?;
         monitor.clock((width, beats), any_clock(random), coverage)?;
-        plan(random, Transfer { width, beats, start: 5, count: 20 }, 64, coverage)?;
+        let transfer = Transfer { width, beats, start: 5, count: 20 };
+        plan(random, transfer, 64, coverage)?;
+        count(transfer, coverage)?;
     }
     Ok(())
 }

@@ -2,6 +2,7 @@
 
 use crate::clock_edges;
 use crate::clocks::clocks;
+use crate::counts;
 use crate::coverage::Coverage;
 use crate::edges;
 use crate::large;
@@ -13,7 +14,7 @@ use shared::random::Random;
 type Case = fn(&mut Random, &mut Coverage) -> Result<(), String>;
 
 /// Cases that every run takes once.
-const ONCE: [(&str, Case); 12] = [
+const ONCE: [(&str, Case); 13] = [
     ("registers", edges::registers),
     ("interrupts", edges::interrupts),
     ("faults", edges::faults),
@@ -26,6 +27,7 @@ const ONCE: [(&str, Case); 12] = [
     ("longest transfer", large::longest_transfer),
     ("longest runs", large::longest_runs),
     ("longest plans", plans::longest),
+    ("longest counts", counts::longest),
 ];
 
 /// Families of random cases, in turn.

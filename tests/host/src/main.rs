@@ -4,6 +4,7 @@
 mod calls;
 mod clock_edges;
 mod clocks;
+mod counts;
 mod coverage;
 mod edges;
 mod engine_desk;

@@ -1,14 +1,18 @@
-// Plans, with room to spare, with just enough and with too little.
+// Plans, with room to spare, with just enough and with too little, and the counts of the same
+// transfers.
 
+use crate::counts::count;
 use crate::coverage::{Coverage, Function};
 use crate::lent::Lent;
 use crate::reference;
-use independent::cut::LONGEST as MOST_BYTES;
-use shared::interface::belikumba_plan;
+use independent::answer;
+pub use independent::cut::LONGEST as MOST_BYTES;
+use shared::interface::{belikumba_plan, Planned};
 use shared::random::Random;
 use shared::settings;
 
-const TOP: u64 = 1 << 32;
+pub const TOP: u64 = 1 << 32;
+pub const PAGE: u32 = 4096;
 
 #[derive(Clone, Copy, Debug)]
 pub struct Transfer {
@@ -18,10 +22,24 @@ pub struct Transfer {
     pub count: u32,
 }
 
+impl Transfer {
+    pub fn end(&self) -> u64 {
+        u64::from(self.start) + u64::from(self.count)
+    }
+
+    /// Whether it has answer 7, if nothing before that holds.
+    pub fn out_of_range(&self) -> bool {
+        self.count == 0 || self.count > MOST_BYTES || self.end() > TOP
+    }
+}
+
 pub fn plans(random: &mut Random, coverage: &mut Coverage) -> Result<(), String> {
     for _ in 0..20 {
         let transfer = any(random);
         with_each_room(random, transfer, coverage)?;
+        // A count takes no places, so the same transfer can be of any length.
+        let long = Transfer { count: random.between(1, MOST_BYTES), ..transfer };
+        count(long, coverage)?;
     }
     Ok(())
 }
@@ -37,19 +55,21 @@ pub fn longest(random: &mut Random, coverage: &mut Coverage) -> Result<(), Strin
 fn any(random: &mut Random) -> Transfer {
     let (width, beats) =
         if random.chance(90) { settings::listed(random) } else { settings::unlisted(random) };
-    let count = match random.below(12) {
+    let count = match random.below(13) {
         0 => random.pick(&[0, 1, MOST_BYTES + 1, u32::MAX]),
         1 => random.u32(),
-        2..=4 => random.between(1, 20),
-        5..=7 => random.between(1, 9000),
+        2 => random.between(1, 3) * PAGE,
+        3..=5 => random.between(1, 20),
+        6..=8 => random.between(1, 9000),
         _ => random.between(1, 1000),
     };
-    let start = match random.below(6) {
+    let start = match random.below(7) {
         0 => random.u32(),
         // The end at 2^32, and a few bytes to each side of it.
         1 => 0u32.wrapping_sub(count).wrapping_add(random.below(5)).wrapping_sub(2),
         2 => u32::MAX - random.below(9000),
-        3 => (random.below(1 << 20) << 12).wrapping_sub(random.below(300)),
+        3 => (random.below(1 << 20) * PAGE).wrapping_sub(random.below(300)),
+        4 => random.below(1 << 20) * PAGE,
         _ => random.below(10_000),
     };
     Transfer { width, beats, start, count }
@@ -75,16 +95,38 @@ fn with_each_room(
         plan(random, transfer, length, coverage)?;
         count_room(transfer, length, needed, coverage);
     }
+    with_counted_room(random, transfer, coverage)
+}
+
+/// The library's own count is the room that its plan needs, to the place.
+fn with_counted_room(
+    random: &mut Random,
+    transfer: Transfer,
+    coverage: &mut Coverage,
+) -> Result<(), String> {
+    let counted = count(transfer, coverage)?;
+    if counted.answer != answer::DONE {
+        return Ok(());
+    }
+    let enough = 8 * counted.bursts as usize;
+    let planned = plan(random, transfer, enough, coverage)?;
+    let short = plan(random, transfer, enough - 4, coverage)?;
+    if planned != counted || short.answer != answer::ROOM {
+        return Err(format!(
+            "count of {transfer:?}: {counted:?}\n  plan with that much room   {planned:?}\n  \
+             plan with one place fewer  {short:?}"
+        ));
+    }
     Ok(())
 }
 
-/// One plan into `length` bytes of places.
+/// One plan into `length` bytes of places; what the library gave is handed back.
 pub fn plan(
     random: &mut Random,
     transfer: Transfer,
     length: usize,
     coverage: &mut Coverage,
-) -> Result<(), String> {
+) -> Result<Planned, String> {
     let Transfer { width, beats, start, count } = transfer;
     let margin = random.u32() as u8;
     let mut places = Lent::new(length + 3, margin);
@@ -103,15 +145,13 @@ pub fn plan(
         ));
     }
     coverage.answer(Function::Plan, given.answer, width, beats);
-    let end = u64::from(start) + u64::from(count);
-    let range = count == 0 || count > MOST_BYTES || end > TOP;
-    coverage.beside(Function::Plan, given.answer, &[(7, range), (8, length < 8)]);
-    Ok(())
+    let others = [(7, transfer.out_of_range()), (8, length < 8)];
+    coverage.beside(Function::Plan, given.answer, &others);
+    Ok(given)
 }
 
 fn count_room(transfer: Transfer, length: usize, needed: usize, coverage: &mut Coverage) {
-    let Transfer { start, count, .. } = transfer;
-    let end = u64::from(start) + u64::from(count);
+    let (count, end) = (transfer.count, transfer.end());
     coverage.see_if(count == 0, "plan of no bytes");
     coverage.see_if(count == MOST_BYTES + 1, "plan of 8,388,608 bytes");
     coverage.see_if(end == TOP + 1, "plan one byte past 2^32");

@@ -2,7 +2,7 @@
 // have no engine there, and are refused here in the rules' order.
 
 use independent::answer::{self, settings_listed};
-use independent::cut::plan_bytes;
+use independent::cut::{self, plan_bytes};
 use independent::engine::Event;
 use independent::memory::{Window, LONGEST, MOST_WINDOWS};
 
@@ -11,6 +11,11 @@ use shared::words::{self, EngineWords, MonitorWords, BEATS, WIDTH};
 
 pub fn plan(width: u32, beats: u32, start: u32, count: u32, places: &mut [u8]) -> Planned {
     let (answer, bursts) = plan_bytes(width, beats, start, count, places);
+    Planned { answer, bursts }
+}
+
+pub fn count(width: u32, beats: u32, start: u32, count: u32) -> Planned {
+    let (answer, bursts) = cut::count(width, beats, start, count);
     Planned { answer, bursts }
 }
 

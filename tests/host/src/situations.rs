@@ -144,6 +144,22 @@ pub const SITUATIONS: &[(&str, &[&str])] = &[
         ],
     ),
     (
+        "counts",
+        &[
+            "count within one page",
+            "count of whole pages alone",
+            "count of a part of one page and a part of the next",
+            "count of whole pages between two parts",
+            "count with bursts cut by pages alone",
+            "count with one burst more than from its first word's start",
+            "count up to 2^32",
+            "count one byte past 2^32",
+            "count of 8,388,607 bytes",
+            "count of 8,388,608 bytes",
+            "count of no bytes",
+        ],
+    ),
+    (
         "bus clocks",
         &[
             "snapshot set",

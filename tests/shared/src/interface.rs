@@ -65,6 +65,7 @@ extern "C" {
         places: *mut u8,
         length: usize,
     ) -> Planned;
+    pub fn belikumba_count(width: u32, beats: u32, start: u32, count: u32) -> Planned;
     pub fn belikumba_read(engine: *const u32, offset: u32) -> Value;
     pub fn belikumba_write(engine: *mut u32, offset: u32, value: u32) -> u32;
     pub fn belikumba_interrupt_line(engine: *const u32) -> Value;

@@ -98,20 +98,18 @@ int main(int argc, char **argv) {
         }
     }
 
-    /* Answer 8 asks for more places without saying how many, so the room doubles until the plan fits. */
+    /* The count says how much room the plan needs, or why there is no plan. */
     uint8_t *places = NULL;
-    size_t length = 64 * BURST_BYTES;
-    struct belikumba_planned planned;
-    do {
-        free(places);
-        length *= 2;
+    struct belikumba_planned planned = belikumba_count(numbers[0], numbers[1], numbers[2], numbers[3]);
+    if (planned.answer == BELIKUMBA_DONE) {
+        size_t length = (size_t)planned.bursts * BURST_BYTES;
         places = malloc(length);
         if (places == NULL) {
             fprintf(stderr, "plan: no memory for %zu bytes of places\n", length);
             return FAILED;
         }
         planned = belikumba_plan(numbers[0], numbers[1], numbers[2], numbers[3], places, length);
-    } while (planned.answer == BELIKUMBA_PLAN_ROOM);
+    }
 
     if (planned.answer == BELIKUMBA_DONE) {
         print_bursts(places, planned.bursts);

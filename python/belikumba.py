@@ -26,7 +26,8 @@ import os
 from typing import NamedTuple
 
 __all__ = [
-    "Answer", "Clock", "Control", "Descriptor", "Engine", "Event", "Monitor", "Refused", "Register", "Status", "Step", "plan",
+    "Answer", "Clock", "Control", "Descriptor", "Engine", "Event", "Monitor", "Refused", "Register", "Status", "Step",
+    "count", "plan",
 ]
 
 
@@ -175,6 +176,7 @@ def _load():
     words, memory, size = ctypes.POINTER(_WORD), ctypes.c_void_p, ctypes.c_size_t
     for name, result, arguments in (
         ("plan", _Planned, (_WORD, _WORD, _WORD, _WORD, memory, size)),
+        ("count", _Planned, (_WORD, _WORD, _WORD, _WORD)),
         ("read", _Value, (words, _WORD)),
         ("write", _WORD, (words, _WORD, _WORD)),
         ("interrupt_line", _Value, (words,)),
@@ -211,6 +213,10 @@ def _lent(memory):
     return ((ctypes.c_uint8 * length).from_buffer(memory) if length else None), length
 
 
+def _counted(transfer):
+    return _judged(_library.belikumba_count(*transfer)).bursts
+
+
 def _windows(windows):
     numbers = [_number(number) for start, length in windows for number in (start, length)]
     return ((_WORD * len(numbers))(*numbers) if numbers else None), len(numbers)
@@ -224,17 +230,17 @@ def plan(width, beats, start, count, places=None):
 
     `places` is the room for the plan, two places a burst; as much as is needed if it is not given.
     """
-    settings = [_number(number) for number in (width, beats, start, count)]
-    room = 128 if places is None else _number(places)
-    while True:
-        buffer = (ctypes.c_uint8 * (4 * room))()
-        planned = _library.belikumba_plan(*settings, buffer, 4 * room)
-        if planned.answer != Answer.PLAN_ROOM or places is not None:
-            break
-        room *= 2
-    _judged(planned)
+    transfer = [_number(number) for number in (width, beats, start, count)]
+    room = 2 * _counted(transfer) if places is None else _number(places)
+    buffer = (ctypes.c_uint8 * (4 * room))()
+    planned = _judged(_library.belikumba_plan(*transfer, buffer, 4 * room))
     numbers = [int.from_bytes(buffer[at:at + 4], "little") for at in range(0, 8 * planned.bursts, 4)]
     return list(zip(numbers[::2], numbers[1::2]))
+
+
+def count(width, beats, start, count):
+    """The number of bursts of a transfer, without its plan; RULES.md 3.4."""
+    return _counted([_number(number) for number in (width, beats, start, count)])
 
 
 class Engine:

@@ -8,7 +8,9 @@ import unittest
 ROOT = os.path.join(os.path.dirname(os.path.abspath(__file__)), "..", "..")
 sys.path.insert(0, os.path.join(ROOT, "python"))
 
-from belikumba import Answer, Clock, Control, Descriptor, Engine, Event, Monitor, Refused, Register, Status, Step, plan
+from belikumba import (
+    Answer, Clock, Control, Descriptor, Engine, Event, Monitor, Refused, Register, Status, Step, count, plan,
+)
 
 
 class Cases(unittest.TestCase):
@@ -61,6 +63,41 @@ class Plans(Cases):
         self.refused(Answer.PLAN_ROOM, plan, 4, 16, 0, 1, places=0)
         self.refused(Answer.SETTINGS, plan, 3, 16, 0, 0)
         self.refused(Answer.SETTINGS, plan, 4, 512, 0, 1)
+
+
+class Counts(Cases):
+    """RULES.md 3.4: page by page, the words of each divided by the beats and rounded up."""
+
+    def test_worked_cases(self):
+        for arguments, bursts in (
+            ((4, 16, 0, 1), 1),
+            ((4, 16, 0, 64), 1),
+            ((4, 16, 0, 65), 2),
+            ((4, 16, 3, 64), 2),  # 17 words
+            ((4, 16, 4088, 16), 2),  # 2 words in each of two pages
+            ((4, 16, 4294967295, 1), 1),
+            ((128, 256, 0, 8192), 2),  # two pages of 32 words
+            ((4, 16, 0, 8388607), 131072),  # 2048 pages of 1024 words, the last one short by a byte
+            ((4, 2, 4095, 8388607), 1048577),  # 1 word; 2047 pages of 1024 words; 1024 words
+            ((128, 256, 4095, 8388607), 2049),  # 1 word; 2047 pages of 32 words; 32 words
+        ):
+            self.assertEqual(count(*arguments), bursts)
+
+    def test_room(self):
+        for arguments in ((4, 16, 4088, 16), (4, 2, 5, 20000), (64, 32, 4294947296, 20000)):
+            bursts = count(*arguments)
+            self.assertEqual(len(plan(*arguments)), bursts)
+            self.assertEqual(plan(*arguments, places=2 * bursts), plan(*arguments))
+            self.refused(Answer.PLAN_ROOM, plan, *arguments, places=2 * bursts - 1)
+
+    def test_refusals(self):
+        self.refused(Answer.PLAN_RANGE, count, 4, 16, 4294967295, 2)
+        self.refused(Answer.PLAN_RANGE, count, 4, 16, 0, 0)
+        self.refused(Answer.PLAN_RANGE, count, 4, 16, 0, 8388608)
+        self.refused(Answer.SETTINGS, count, 3, 16, 0, 0)
+        self.refused(Answer.SETTINGS, count, 4, 512, 0, 1)
+        self.assertRaises(OverflowError, count, 4, 16, 0, 1 << 32)
+        self.assertRaises(OverflowError, count, 4, 16, -1, 1)
 
 
 class Engines(Cases):

@@ -1,8 +1,8 @@
-// The cutter: `belikumba_plan` of the C library beside the independent program's.
+// The cutter: `belikumba_plan` and `belikumba_count` of the C library beside the independent program's.
 
 use crate::race::{print_heading, print_row, race, wanted};
-use independent::cut::{plan_bytes, LONGEST};
-use shared::interface::{belikumba_plan, Planned};
+use independent::cut::{self, plan_bytes, LONGEST};
+use shared::interface::{belikumba_count, belikumba_plan, Planned};
 use shared::random::Random;
 use std::hint::black_box;
 
@@ -15,6 +15,18 @@ fn proved(width: u32, beats: u32, start: u32, count: u32, places: &mut [u8]) -> 
 
 fn plain(width: u32, beats: u32, start: u32, count: u32, places: &mut [u8]) -> Planned {
     let (answer, bursts) = plan_bytes(width, beats, start, count, places);
+    Planned { answer, bursts }
+}
+
+type Counter = fn(u32, u32, u32, u32) -> Planned;
+
+fn proved_count(width: u32, beats: u32, start: u32, count: u32) -> Planned {
+    // SAFETY: include/belikumba.h: it is lent nothing, and takes any numbers.
+    unsafe { belikumba_count(width, beats, start, count) }
+}
+
+fn plain_count(width: u32, beats: u32, start: u32, count: u32) -> Planned {
+    let (answer, bursts) = cut::count(width, beats, start, count);
     Planned { answer, bursts }
 }
 
@@ -37,6 +49,12 @@ fn small() -> Vec<Transfer> {
     (0..1000).map(transfer).collect()
 }
 
+/// Transfers of one length, from anywhere.
+fn of_length(count: u32) -> Vec<Transfer> {
+    let mut random = Random::new(2, 0);
+    (0..1000).map(|_| Transfer { start: random.below(u32::MAX - LONGEST), count }).collect()
+}
+
 /// Both make the same of every transfer, and of the bytes beyond their places; gives the number of bursts.
 fn compare(width: u32, beats: u32, transfers: &[Transfer], places: &mut [u8]) -> u64 {
     let mut others = places.to_vec();
@@ -52,6 +70,16 @@ fn compare(width: u32, beats: u32, transfers: &[Transfer], places: &mut [u8]) ->
     bursts
 }
 
+/// Both count the same bursts in every transfer.
+fn compare_counts(width: u32, beats: u32, transfers: &[Transfer]) {
+    for transfer in transfers {
+        let counted = proved_count(width, beats, transfer.start, transfer.count);
+        let other = plain_count(width, beats, transfer.start, transfer.count);
+        assert_eq!(counted, other, "the proved count and the plain one differ");
+        assert_eq!(counted.answer, 0, "a transfer of this bench is refused");
+    }
+}
+
 fn plan_all(planner: Planner, width: u32, beats: u32, transfers: &[Transfer], places: &mut [u8]) {
     for transfer in transfers {
         black_box(planner(
@@ -64,7 +92,23 @@ fn plan_all(planner: Planner, width: u32, beats: u32, transfers: &[Transfer], pl
     }
 }
 
+fn count_all(counter: Counter, width: u32, beats: u32, transfers: &[Transfer]) {
+    for transfer in transfers {
+        black_box(counter(
+            black_box(width),
+            black_box(beats),
+            black_box(transfer.start),
+            black_box(transfer.count),
+        ));
+    }
+}
+
 pub fn bench() {
+    bench_plans();
+    bench_counts();
+}
+
+fn bench_plans() {
     print_heading("plan", "nanoseconds a burst");
     for (size, transfers) in [("large", large()), ("small", small())] {
         // A burst takes 8 bytes here and moves many more, so the longest transfer's length is room enough.
@@ -84,5 +128,23 @@ pub fn bench() {
             let times = race(bursts, &mut places[..], work(proved), work(plain));
             print_row(&what, &times);
         }
+    }
+}
+
+fn bench_counts() {
+    print_heading("count", "nanoseconds a call");
+    let (width, beats) = (4, 16);
+    for (what, count) in [("8,388,607 bytes", LONGEST), ("64 bytes", 64)] {
+        if !wanted(what) {
+            continue;
+        }
+        let transfers = of_length(count);
+        compare_counts(width, beats, &transfers);
+        let work = |counter: Counter| {
+            let transfers = &transfers;
+            move |_: &mut ()| count_all(black_box(counter), width, beats, transfers)
+        };
+        let times = race(transfers.len() as u64, &mut (), work(proved_count), work(plain_count));
+        print_row(what, &times);
     }
 }

@@ -20,7 +20,7 @@ fn least(a: u64, b: u64) -> u64
 
 // How far the byte at `at` is past the start of its aligned word. A division by the width would cost more than the rest
 // of a step, so each legal width has its own constant one.
-fn word_offset(width: u32, at: u64) -> u64
+pub fn word_offset(width: u32, at: u64) -> u64
     requires { ⌜ 0 < width ⌝ }
     ensures { λ r. ⌜ r ≡ at % width ⌝ }
 {

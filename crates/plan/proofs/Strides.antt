@@ -8,7 +8,7 @@ use mathlib.Core.Logic.{_⊎_, inl, inr}
 use lib.Count.{trailingZeros}
 use lib.Dec.{eqb, ltb, leb}
 use lib.ListN.{length, length-append}
-use native.Mathlib.Nat.{add-mul, mul-comm, mul-suc, mul-div-le, mod-lt, div-add-mod, div-eq-of-lt, add-div-right, mul-add-div, div-mul-cancel, dvd-of-mod-eq-zero, dvd-refl, dvd-add, dvd-sub, dvd-mul-left-of-dvd, le-of-dvd}
+use native.Mathlib.Nat.{add-mul, mul-comm, mul-suc, mul-div-le, mod-lt, mod-le, mod-mod-of-dvd, div-add-mod, div-eq-of-lt, add-div-right, mul-add-div, div-mul-cancel, dvd-of-mod-eq-zero, dvd-refl, dvd-add, dvd-sub, dvd-mul-left-of-dvd, le-of-dvd}
 use native.Mathlib.Omega.{arith}
 use borrow.Author.Tests.{ltb-true, leb-true, leb-false, eqb-true, eqb-false, eq-eqb, ne-eqb}
 use Rattle.kit.specs.Choice.{when, both}
@@ -17,7 +17,7 @@ use Rattle.kit.proofs.Choice.{decide, yes, no, both-left, both-right}
 use Rattle.kit.proofs.Legal.{Legal, legal, settings-have}
 use Rattle.cut.specs.declared.Burst.{Burst}
 use Rattle.cut.specs.Cut.{page, reach, burstEnd, burstBytes, burst, cut}
-use Rattle.cut.proofs.Reach.{ends, end-aligned}
+use Rattle.cut.proofs.Reach.{burst-bytes, ends, end-aligned}
 use Rattle.cut.proofs.Cutting.{cut-stop, cut-step, cut-join, cut-few}
 use Rattle.plan.specs.Layout.{strideOf, evenOf, laidOf}
 
@@ -80,6 +80,22 @@ stretch {each} {at} {bytes} {k} i =
 
     last : (bytes - each * q ≡ 0 → ⊥) → rest ≡ laid (at + each * q) (bytes % each) ∷ []
     last z = sym (no _ (ne-eqb (bytes % each) 0 (λ y. z (left ∙ y))) refl)
+
+-- n bytes from o on past a stride's start: the first burst goes to the stride's end
+first-piece : (s o n first : ℕ) → 0 < s → o < s → 0 < n → first ≡ min (s - o) n → 1 + (n - first + (s - 1)) / s ≡ (o + n + (s - 1)) / s
+first-piece s o n first some h i e = go (decide (leb (s - o) n))
+  where
+    go : (leb (s - o) n ≡ true) ⊎ (leb (s - o) n ≡ false) → 1 + (n - first + (s - 1)) / s ≡ (o + n + (s - 1)) / s
+    go (inl t) =
+        let j = leb-true (s - o) n t in
+        let sum : o + n + (s - 1) ≡ n - first + (s - 1) + s = omega arith in
+        sym (ap (λ (x : ℕ). x / s) sum ∙ add-div-right (n - first + (s - 1)) some ∙ omega arith)
+    go (inr t) =
+        let j = leb-false (s - o) n t in
+        let sum : o + n + (s - 1) ≡ o + n - 1 + s = omega arith in
+        let one : (n - first + (s - 1)) / s ≡ 0 = div-eq-of-lt (omega arith) in
+        let other : (o + n - 1) / s ≡ 0 = div-eq-of-lt (omega arith) in
+        ap (λ (x : ℕ). 1 + x) one ∙ sym (ap (λ (x : ℕ). x / s) sum ∙ add-div-right (o + n - 1) some ∙ ap (λ (x : ℕ). x + 1) other)
 
 -- ---- what the cut of a transfer is
 
@@ -267,12 +283,49 @@ module _ (w l : ℕ) (e : legalSettings w l ≡ true) where
     pub fewer : here ≤ count
     pub bursts : cut w l start (start + count) ≡ laid start first ∷ laidOf each (start + first) (here - first) ++ laidOf each (start + here) (count - here)
     pub parts : length (cut w l start (start + count)) ≡ 1 + length (laidOf each (start + first) (here - first)) + length (laidOf each (start + here) (count - here))
-    pub number : length (cut w l start (start + count)) ≡ 1 + (here - first + (each - 1)) / each + (count - here + (each - 1)) / each
+    pub number : {o : ℕ} → o ≡ start % w → length (cut w l start (start + count)) ≡ (o + here + (each - 1)) / each + (count - here + (each - 1)) / each
     pub few : length (cut w l start (start + count)) ≤ count
 
   first-within : (start count : ℕ) → burstBytes w l start count ≤ min (page - start % page) count
   unfolding burstEnd reach
   first-within start count = omega arith
+
+  -- the first burst ends a stride past the start of its first word, or with the page's bytes
+  first-is : (start count : ℕ) → burstBytes w l start count ≡ min (s - start % w) (min (page - start % page) count)
+  first-is start count =
+      let g = legal w l e in
+      let near : start % w ≤ start % page =
+      subst (λ (x : ℕ). x ≤ start % page) (mod-mod-of-dvd w start (dvd-of-mod-eq-zero w (g .width-pages))) (mod-le (start % page) w) in
+      sym (burst-bytes w l start count) ∙ go (page - start % page) (omega (arith, near)) (decide (leb (w * l) page))
+    where
+      o : ℕ
+      o = start % w
+
+      swap : (x y z : ℕ) → min x (min y z) ≡ min y (min x z)
+      swap x y z = omega arith
+
+      skip : (x y z : ℕ) → x ≤ y → min y (min x z) ≡ min x z
+      skip x y z h = omega arith
+
+      go : (p : ℕ) → p ≤ page - o → (leb (w * l) page ≡ true) ⊎ (leb (w * l) page ≡ false) → min p (min (w * l - o) count) ≡ min (s - o) (min p count)
+      go p i (inl t) =
+          let j = leb-true (w * l) page t in
+          let same : w * l ≡ s = omega arith in
+          ap (λ (x : ℕ). min p (min (x - o) count)) same ∙ swap p (s - o) count
+      go p i (inr t) =
+          let j = leb-false (w * l) page t in
+          let same : page ≡ s = omega arith in
+          swap p (w * l - o) count ∙ skip p (w * l - o) count (omega arith) ∙ sym (skip p (s - o) count (subst (λ (x : ℕ). p ≤ x - o) same i))
+
+  first-page-length : (start count : ℕ) → 0 < count
+      → let first = burstBytes w l start count in
+      let here = min (page - start % page) count in
+      1 + (here - first + (s - 1)) / s ≡ (start % w + here + (s - 1)) / s
+  first-page-length start count h =
+      let q = stride w l e in
+      let word = mod-lt start (legal w l e .width-positive) in
+      first-piece s (start % w) (min (page - start % page) count) (burstBytes w l start count) (q .some)
+      (omega (arith, word, le-of-dvd (q .some) (q .words))) (omega arith) (first-is start count)
 
   lie : (start count : ℕ) → 0 < count → Lies start count (burstBytes w l start count) (min (page - start % page) count) s
   lie start count h =
@@ -290,7 +343,9 @@ module _ (w l : ℕ) (e : legalSettings w l ≡ true) where
         bursts = bursts;
         few = omega (arith, cut-few w l (g .width-positive) (g .beats-positive) start (start + count));
         parts = parts;
-        number = parts ∙ ap₂ (λ (m n : ℕ). 1 + m + n) (laid-length (start + first) (here - first)) (laid-length (start + here) (count - here));
+        number = λ {o} i. parts
+            ∙ ap₂ (λ (m n : ℕ). m + n) (ap (λ (m : ℕ). 1 + m) (laid-length (start + first) (here - first)) ∙ first-page-length start count h ∙ ap (λ (x : ℕ). (x + here + (s - 1)) / s) (sym i))
+            (laid-length (start + here) (count - here));
       }
 
   pub lies : {start count first here each : ℕ} → 0 < count → first ≡ burstBytes w l start count → here ≡ min (page - start % page) count → each ≡ s

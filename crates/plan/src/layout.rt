@@ -1,8 +1,8 @@
 // How a transfer's bursts lie. The first one starts anywhere and ends at the end of a word. Those that are left of its page
 // and those of the pages behind start a stride apart, so their number comes by division.
 use cut::PAGE;
-use cut::burst_bytes;
 use cut::span;
+use cut::word_offset;
 ghost use mathlib.Core.Path.{_≡_};
 ghost use mathlib.Core.Bool.{true};
 ghost use Prim.Native.Nat.{_+_, _-_, _/_, _%_, _≤_, _<_, _^_, min};
@@ -33,7 +33,7 @@ pub fn in_page(start: u32, count: u32) -> u32
     if left < count { left } else { count }
 }
 
-// A division by a stride, which is a power of two: to shift costs a tenth of it.
+// A division by a stride, which is a power of two. The compiler cannot see that, so the code shifts.
 pub fn divide(bytes: u32, stride: u32) -> u32
     requires { ⌜ 2 ^ trailingZeros 32 stride ≡ stride ⌝ }
     ensures { λ r. ⌜ r ≡ bytes / stride ⌝ }
@@ -52,7 +52,8 @@ fn pieces(bytes: u32, stride: u32) -> u32
     divide(bytes + (stride - 1), stride)
 }
 
-// The number of bursts of a transfer: the first, those left of its page, and those of the pages behind.
+// The number of bursts of a transfer: those of its first page, whose words count from the first byte's, and those of the
+// pages behind.
 pub fn count_bursts(width: u32, beats: u32, start: u32, count: u32) -> u32
     requires { ⌜ legalSettings width beats ≡ true ⌝ }
     requires { ⌜ 0 < count ⌝ }
@@ -60,7 +61,7 @@ pub fn count_bursts(width: u32, beats: u32, start: u32, count: u32) -> u32
     ensures { λ r. ⌜ r ≡ length (cut width beats start (start + count)) ⌝ }
 {
     let stride = stride(width, beats);
-    let first = burst_bytes(width, beats, start as u64, count);
     let here = in_page(start, count);
-    1 + pieces(here - first, stride) + pieces(count - here, stride)
+    let words = word_offset(width, start as u64) as u32 + here;
+    pieces(words, stride) + pieces(count - here, stride)
 }

@@ -16,7 +16,8 @@ use Rattle.cut.specs.declared.Burst.{Burst}
 use Rattle.cut.specs.Cut.{cut}
 use Rattle.plan.specs.Plan.{placesOf, littleOf}
 use Rattle.plan.specs.Layout.{evenOf, laidOf}
-use Rattle.plan.proofs.Strides.{laid, even-length, Stretch, Lies}
+use Rattle.plan.proofs.Strides.{laid, even-length, Stretch}
+use Rattle.plan.proofs.Lying.{Lies}
 
 -- ---- the two ways to write bursts
 

@@ -2,7 +2,7 @@ use native.Mathlib.Omega.{arith}
 use borrow.Author.Needs.{needs}
 use denote.Ref.{now}
 use Rattle.kit.proofs.Legal.{legal}
-use Rattle.plan.proofs.Strides.{Lies, lies}
+use Rattle.plan.proofs.Lying.{Lies, lies}
 use Rattle.plan.proofs.Filling.{little-coding, filled}
 use Rattle.plan.proofs.fill.bytes.Statement.{statement}
 use Rattle.plan.proofs.fill.bytes.Tie as tie

@@ -5,7 +5,7 @@ use native.Mathlib.Omega.{arith}
 use borrow.Author.Needs.{needs}
 use Rattle.kit.proofs.Legal.{legal}
 use Rattle.cut.specs.Cut.{burstBytes}
-use Rattle.plan.proofs.Strides.{Lies, lies}
+use Rattle.plan.proofs.Lying.{Lies, lies}
 use Rattle.plan.proofs.layout.count_bursts.Statement.{statement}
 use Rattle.plan.proofs.layout.count_bursts.Tie as tie
 

@@ -50,7 +50,7 @@ enum belikumba_answer {
 /* ---- Plan (RULES.md 3) ---- */
 
 struct belikumba_planned {
-    uint32_t answer; /* 0, 1, 7, or of a plan alone 8 */
+    uint32_t answer; /* 0, 1 or 7; from belikumba_plan also 8 */
     uint32_t bursts; /* the number of bursts; 0 if the answer is not 0 */
 };
 
@@ -80,10 +80,10 @@ struct belikumba_planned belikumba_plan(uint32_t width, uint32_t beats, uint32_t
                                         size_t length);
 
 /*
- * The number of bursts of the same transfer, without its plan: lent 8 * bursts bytes, belikumba_plan answers 0 and writes
- * that many. It is worked out by division: its time does not grow with the number of bursts.
+ * The number of bursts of the same transfer, without its plan. If belikumba_plan is lent 8 * bursts bytes for it, it
+ * answers 0 and writes them all. The number is worked out by division: the time does not grow with the number of bursts.
  *
- * The answer is the first of these that holds; 8 is none of them, since nothing is lent:
+ * The answer is the first of these that holds; it is never 8, since nothing is lent:
  *
  *     1    width or beats is not one of those listed above
  *     7    count is 0 or above 8,388,607, or start + count is above 2^32 (equal to 2^32 is allowed)

@@ -2,7 +2,7 @@
 use mathlib.Core.Path.{_≡_, refl, sym, ap, _∙_}
 use Prim.Native.Nat.{ℕ, zero, suc, _+_, _-_, _*_, _/_, _%_, _≤_, _<_, min}
 use mathlib.Core.Bool.{true, false}
-use mathlib.Core.List.{List, [], _∷_, _++_}
+use mathlib.Core.List.{List}
 use mathlib.Core.Logic.{_⊎_, inl, inr}
 use lib.ListN.{length, length-append}
 use lib.Dec.{eqb, ltb, leb}
@@ -12,8 +12,8 @@ use borrow.Author.Tests.{ltb-true, ltb-false, leb-true, leb-false, eqb-true, eqb
 use Rattle.kit.specs.Choice.{when}
 use Rattle.kit.proofs.Choice.{decide, yes, no}
 use Rattle.cut.specs.declared.Burst.{Burst}
-use Rattle.cut.specs.Cut.{page, reach, burstEnd, burst, cut}
-use Rattle.cut.specs.Count.{words, pageCount, pagesCount, countOf}
+use Rattle.cut.specs.Cut.{page, reach, burstEnd, cut}
+use Rattle.cut.specs.Count.{words, burstsInPage, burstsInPages, countOf}
 use Rattle.cut.proofs.Reach.{ends, reach-legal, whole}
 use Rattle.cut.proofs.Cutting.{cut-stop, cut-ind, cut-join}
 
@@ -31,15 +31,15 @@ module _ (w l : ℕ) (pw : 0 < w) (pl : 0 < l) where
   unfolding reach
   reach-is a = refl
 
-  one-page : (e a : ℕ) → a < e → e ≤ (a / page + 1) * page → length (cut w l a e) ≡ pageCount w l a e
-  unfolding pageCount burstEnd
-  one-page e = cut-ind w l pw pl e (λ a bs. a < e → e ≤ (a / page + 1) * page → length bs ≡ pageCount w l a e)
+  one-page : (e a : ℕ) → a < e → e ≤ (a / page + 1) * page → length (cut w l a e) ≡ burstsInPage w l a e
+  unfolding burstsInPage burstEnd
+  one-page e = cut-ind w l pw pl e (λ a bs. a < e → e ≤ (a / page + 1) * page → length bs ≡ burstsInPage w l a e)
       (λ a h i. absurd (omega arith)) λ a h below i j. turn a h below j (decide (leb e (reach w l a)))
     where
       turn : (a : ℕ) → a < e
-          → (burstEnd w l a e < e → e ≤ (burstEnd w l a e / page + 1) * page → length (cut w l (burstEnd w l a e) e) ≡ pageCount w l (burstEnd w l a e) e)
+          → (burstEnd w l a e < e → e ≤ (burstEnd w l a e / page + 1) * page → length (cut w l (burstEnd w l a e) e) ≡ burstsInPage w l (burstEnd w l a e) e)
           → e ≤ (a / page + 1) * page → (leb e (reach w l a) ≡ true) ⊎ (leb e (reach w l a) ≡ false)
-          → suc (length (cut w l (burstEnd w l a e) e)) ≡ pageCount w l a e
+          → suc (length (cut w l (burstEnd w l a e) e)) ≡ burstsInPage w l a e
       turn a h below j (inl t) =
           let i = leb-true e (reach w l a) t in
           let last = cut-stop w l (burstEnd w l a e) e (omega arith) in
@@ -57,8 +57,8 @@ module _ (w l : ℕ) (pw : 0 < w) (pl : 0 < l) where
 
   -- n whole pages from page p on, and the last page
   whole-and-last : (n p q e : ℕ) → p + n ≡ q → q * page < e → e ≤ (q + 1) * page
-      → length (cut w l (p * page) e) ≡ pagesCount w l n p + pageCount w l (q * page) e
-  unfolding pagesCount
+      → length (cut w l (p * page) e) ≡ burstsInPages w l n p + burstsInPage w l (q * page) e
+  unfolding burstsInPages
   whole-and-last zero p q e s h i =
       ap (λ (x : ℕ). length (cut w l (x * page) e)) (omega arith) ∙ one-page e (q * page) h (omega arith) ∙ omega arith
   whole-and-last (suc n) p q e s h i =
@@ -79,7 +79,7 @@ module _ (w l : ℕ) (pw : 0 < w) (pl : 0 < l) where
 
       last : a < e → (eqb p q ≡ true) ⊎ (eqb p q ≡ false)
           → length (cut w l a e)
-          ≡ when (eqb p q) (pageCount w l a e) (pageCount w l a ((p + 1) * page) + pagesCount w l (q - p - 1) (p + 1) + pageCount w l (q * page) e)
+          ≡ when (eqb p q) (burstsInPage w l a e) (burstsInPage w l a ((p + 1) * page) + burstsInPages w l (q - p - 1) (p + 1) + burstsInPage w l (q * page) e)
       last h (inl t) = let same = eqb-true p q t in yes _ t (one-page e a h (omega arith))
       last h (inr t) =
           let other = eqb-false p q t in
@@ -101,14 +101,14 @@ module _ (w l : ℕ) (pw : 0 < w) (d : page % w ≡ 0) where
       let even : p * page ≡ p * (page / w) * w = ap (λ (k : ℕ). p * k) (whole w l pw page d) ∙ sym (mul-assoc p (page / w) w) in
       ap (λ (k : ℕ). (k + x) / w) even ∙ mul-add-div-right pw (p * (page / w)) x
 
-  page-alike : (p : ℕ) → pageCount w l (p * page) ((p + 1) * page) ≡ pageCount w l 0 page
-  unfolding pageCount
+  page-alike : (p : ℕ) → burstsInPage w l (p * page) ((p + 1) * page) ≡ burstsInPage w l 0 page
+  unfolding burstsInPage
   page-alike p =
       let first = ap (λ (k : ℕ). k / w) (sym (add-zero (p * page))) ∙ within p 0 in
       let last : ((p + 1) * page - 1) / w ≡ p * (page / w) + (page - 1) / w = ap (λ (k : ℕ). k / w) (omega arith) ∙ within p (page - 1) in
       ap (λ (n : ℕ). (n + 1 + l - 1) / l) (omega (arith, first, last, zero-div w))
 
-  pub whole-pages : (n p : ℕ) → pagesCount w l n p ≡ n * pageCount w l 0 page
-  unfolding pagesCount
-  whole-pages zero p = sym (zero-mul (pageCount w l 0 page))
-  whole-pages (suc n) p = omega (arith, page-alike p, whole-pages n (p + 1), suc-mul n (pageCount w l 0 page))
+  pub whole-pages : (n p : ℕ) → burstsInPages w l n p ≡ n * burstsInPage w l 0 page
+  unfolding burstsInPages
+  whole-pages zero p = sym (zero-mul (burstsInPage w l 0 page))
+  whole-pages (suc n) p = omega (arith, page-alike p, whole-pages n (p + 1), suc-mul n (burstsInPage w l 0 page))

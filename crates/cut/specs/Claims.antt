@@ -3,7 +3,7 @@ use Prim.Native.Nat.{ℕ, _-_, _*_, _%_, _≤_, _<_}
 use mathlib.Core.Path.{_≡_}
 use lib.ListN.{length}
 use Rattle.cut.specs.Cut.{page, cut, bytesWithin, burstBytes}
-use Rattle.cut.specs.Count.{pageCount, pagesCount, countOf}
+use Rattle.cut.specs.Count.{burstsInPage, burstsInPages, countOf}
 use Rattle.cut.specs.Legal.{WellCut}
 
 pub record Claims : Type 0 where
@@ -14,7 +14,7 @@ pub record Claims : Type 0 where
   -- the number of bursts follows from pages and words, for every width and number of beats above 0
   pub counted : (w l : ℕ) → 0 < w → 0 < l → (a e : ℕ) → length (cut w l a e) ≡ countOf w l a e
   -- and if a page has whole words, as with every legal width, all whole pages take the same number: one product for all of them
-  pub whole-pages : (w l : ℕ) → 0 < w → page % w ≡ 0 → (n p : ℕ) → pagesCount w l n p ≡ n * pageCount w l 0 page
+  pub whole-pages : (w l : ℕ) → 0 < w → page % w ≡ 0 → (n p : ℕ) → burstsInPages w l n p ≡ n * burstsInPage w l 0 page
 
 -- two results that one contract allows are equal
 pub record Unique : Type 0 where

@@ -34,7 +34,7 @@ pub record Unchanged (p : Plan) (before : List ℕ) : Type 0 where
   pub none : p .bursts ≡ 0
   pub kept : p .places ≡ before
 
--- what a count says of a plan with `room` places: too few, answer 8; else what the count has
+-- what a plan with `room` places gives, by its count m: answer 8 if it needs more, else what m has
 abbrev pub fitted : Measured → ℕ → Measured
 fitted m room = when (ltb room (2 * m .bursts)) (refusal 8) m
 

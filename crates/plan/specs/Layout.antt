@@ -7,11 +7,11 @@ use Rattle.kit.specs.Choice.{when}
 use Rattle.cut.specs.declared.Burst.{Burst}
 use Rattle.cut.specs.Cut.{page}
 
--- how far apart bursts start that start at words
+-- how far apart the bursts of a stretch start
 abbrev pub strideOf : ℕ → ℕ → ℕ
 strideOf w l = min (w * l) page
 
--- n bursts of s bytes each, one behind the other from a on
+-- n bursts of s bytes each, one after the other from a on
 abbrev pub evenOf : ℕ → ℕ → ℕ → List Burst
 evenOf s zero a = []
 evenOf s (suc n) a = record { start = a; bytes = s } ∷ evenOf s n (a + s)

@@ -11,7 +11,7 @@ ghost use mathlib.Core.List.{[], _∷_};
 ghost use lib.Count.{trailingZeros};
 ghost use lib.ListN.{length};
 ghost use lib.Seq.{sets};
-ghost use Rattle.kit.specs.Limits.{addressEnd, mostBytes};
+ghost use Rattle.kit.specs.Limits.{addressEnd};
 ghost use Rattle.kit.specs.Settings.{legalSettings};
 ghost use Rattle.cut.specs.Cut.{cut};
 ghost use Rattle.plan.specs.Plan.{placesOf, littleOf};
@@ -43,7 +43,7 @@ fn even_bytes(places: &mut [u8], place: usize, at: u64, each: u32, bursts: u32)
     }
 }
 
-// A stretch of bursts of one length, and what is left of it; the result is the place behind them.
+// A stretch: bursts of one length and, if bytes are left, a shorter last one. The result is the first place after them.
 fn lay_bytes(places: &mut [u8], place: usize, at: u64, bytes: u32, each: u32) -> usize
     requires { ⌜ 0 < each ⌝ }
     requires { ⌜ 2 ^ trailingZeros 32 each ≡ each ⌝ }
@@ -125,7 +125,7 @@ fn lay_places(places: &mut [u32], place: usize, at: u64, bytes: u32, each: u32) 
     next + 2
 }
 
-// The same, a number a place.
+// Start and byte count of each burst of a transfer, in turn, a number a place.
 pub fn places(width: u32, beats: u32, start: u32, count: u32, places: &mut [u32])
     requires { ⌜ legalSettings width beats ≡ true ⌝ }
     requires { ⌜ 0 < count ⌝ }

@@ -1,5 +1,5 @@
-// How a transfer's bursts lie. The first one starts anywhere and ends at the end of a word. Those that are left of its page
-// and those of the pages behind start a stride apart, so their number comes by division.
+// How a transfer's bursts lie. The first starts anywhere; unless the transfer ends in it, it ends at the end of a word. From
+// there to the end of its page, and again from the next page on, bursts start a stride apart, so division gives their number.
 use cut::PAGE;
 use cut::span;
 use cut::word_offset;
@@ -8,12 +8,12 @@ ghost use mathlib.Core.Bool.{true};
 ghost use Prim.Native.Nat.{_+_, _-_, _/_, _%_, _≤_, _<_, _^_, min};
 ghost use lib.Count.{trailingZeros};
 ghost use lib.ListN.{length};
-ghost use Rattle.kit.specs.Limits.{addressEnd, mostBytes};
+ghost use Rattle.kit.specs.Limits.{mostBytes};
 ghost use Rattle.kit.specs.Settings.{legalSettings};
 ghost use Rattle.cut.specs.Cut.{page, cut};
 ghost use Rattle.plan.specs.Layout.{strideOf};
 
-// The bytes of the words that a burst may touch, or a page if that is less. With legal settings pages are whole strides.
+// The bytes of the words that a burst may touch, or a page if that is less. With legal settings a page is whole strides.
 pub fn stride(width: u32, beats: u32) -> u32
     ensures { λ r. ⌜ r ≡ strideOf width beats ⌝ }
 {
@@ -41,7 +41,7 @@ pub fn divide(bytes: u32, stride: u32) -> u32
     bytes >> u32::trailing_zeros(stride)
 }
 
-// How many bursts take these bytes, if the first starts at a word and all but the last have a stride's bytes.
+// How many bursts these bytes take, if the first starts at a word and all but the last have a stride's bytes.
 fn pieces(bytes: u32, stride: u32) -> u32
     requires { ⌜ 0 < stride ⌝ }
     requires { ⌜ 2 ^ trailingZeros 32 stride ≡ stride ⌝ }
@@ -52,8 +52,8 @@ fn pieces(bytes: u32, stride: u32) -> u32
     divide(bytes + (stride - 1), stride)
 }
 
-// The number of bursts of a transfer: those of its first page, whose words count from the first byte's, and those of the
-// pages behind.
+// The number of bursts of a transfer: those of its first page, counted from the start of the first byte's word, and those of
+// the pages after it.
 pub fn count_bursts(width: u32, beats: u32, start: u32, count: u32) -> u32
     requires { ⌜ legalSettings width beats ≡ true ⌝ }
     requires { ⌜ 0 < count ⌝ }
@@ -62,6 +62,6 @@ pub fn count_bursts(width: u32, beats: u32, start: u32, count: u32) -> u32
 {
     let stride = stride(width, beats);
     let here = in_page(start, count);
-    let words = word_offset(width, start as u64) as u32 + here;
-    pieces(words, stride) + pieces(count - here, stride)
+    let from_word = word_offset(width, start as u64) as u32 + here;
+    pieces(from_word, stride) + pieces(count - here, stride)
 }

@@ -1,4 +1,4 @@
-// RULES.md, "Cutting a transfer": the plan of a transfer in a lent slice of numbers, or of bytes.
+// RULES.md, "Cutting a transfer": the plan of a transfer in a lent slice of numbers, or of bytes, and its number of bursts.
 mod fill;
 mod layout;
 pub mod measure;
@@ -34,8 +34,8 @@ pub fn plan_bytes(width: u32, beats: u32, start: u32, count: u32, places: &mut [
     planned
 }
 
-// The number of bursts of a plan, without it, so a caller knows how many places to lend. A burst has a byte at least: with
-// room for as many bursts as a plan can have bytes none is refused for want of room.
+// The number of bursts of a plan, without it, so a caller knows how many places to lend. Each burst has at least one byte, so
+// with two places for each byte of the longest transfer no plan lacks room.
 pub fn count(width: u32, beats: u32, start: u32, count: u32) -> Planned
     ensures { λ r. ⌜ measured r ≡ countedOf width beats start count ⌝ }
 {

@@ -1,5 +1,5 @@
-use mathlib.Core.Path.{_≡_, subst, ap}
-use Prim.Native.Nat.{ℕ, _/_, _≤_, _<_, _^_}
+use mathlib.Core.Path.{_≡_, ap}
+use Prim.Native.Nat.{ℕ, _/_, _<_, _^_}
 use mathlib.Core.Bool.{true, false}
 use mathlib.Core.Logic.{_⊎_, inl, inr}
 use lib.Count.{trailingZeros}

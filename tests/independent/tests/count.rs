@@ -31,19 +31,6 @@ fn worked_out_by_hand() {
 }
 
 #[test]
-fn answer_1_for_every_setting_off_the_lists() {
-    for width in 0..=300 {
-        for beats in 0..=600 {
-            let listed = WIDTHS.contains(&width) && BEATS.contains(&beats);
-            let expected = if listed { (0, 1) } else { (answer::SETTINGS, 0) };
-            assert_eq!(count(width, beats, 0, 1), expected);
-        }
-    }
-    assert_eq!(count(u32::MAX, 16, 0, 1), (answer::SETTINGS, 0));
-    assert_eq!(count(4, 1 << 31, 0, 1), (answer::SETTINGS, 0));
-}
-
-#[test]
 fn answer_7_at_its_edges() {
     let top = u32::MAX - LONGEST + 1;
     assert_eq!(count(4, 16, top, LONGEST), (0, 131_072));

@@ -88,11 +88,14 @@ fn answer_1_for_every_setting_off_the_lists() {
             let expected = if listed { (0, 1) } else { (answer::SETTINGS, 0) };
             assert_eq!(plan(width, beats, 0, 1, &mut [0; 2]), expected);
             assert_eq!(plan_bytes(width, beats, 0, 1, &mut [0; 8]), expected);
+            assert_eq!(cut::count(width, beats, 0, 1), expected);
             assert_eq!(answer::settings_listed(width, beats), listed);
         }
     }
     assert!(!answer::settings_listed(u32::MAX, 16));
     assert!(!answer::settings_listed(4, 1 << 31));
+    assert_eq!(cut::count(u32::MAX, 16, 0, 1), (answer::SETTINGS, 0));
+    assert_eq!(cut::count(4, 1 << 31, 0, 1), (answer::SETTINGS, 0));
 }
 
 #[test]

@@ -83,6 +83,9 @@ struct belikumba_planned belikumba_plan(uint32_t width, uint32_t beats, uint32_t
  * The number of bursts of the same transfer, without its plan. If belikumba_plan is lent 8 * bursts bytes for it, it
  * answers 0 and writes them all. The number is worked out by division: the time does not grow with the number of bursts.
  *
+ * The engine cuts a transfer by its destination alone. For the number of its moves count from the address in DA: the count
+ * from SA may be another number.
+ *
  * The answer is the first of these that holds; it is never 8, since nothing is lent:
  *
  *     1    width or beats is not one of those listed above

@@ -17,6 +17,7 @@ ghost use Rattle.cut.specs.Cut.{cut};
 ghost use Rattle.plan.specs.Plan.{placesOf, littleOf};
 ghost use Rattle.plan.specs.Layout.{evenOf, laidOf};
 
+// One burst, in eight bytes.
 fn store_burst(places: &mut [u8], place: usize, start: u32, bytes: u32)
     requires { ⌜ place + 8 ≤ length (now places) ⌝ }
     ensures { λ _. ⌜ now (places .exit) ≡ sets (now (places .entry)) place (littleOf (start ∷ bytes ∷ [])) ⌝ }
@@ -80,6 +81,7 @@ pub fn bytes(width: u32, beats: u32, start: u32, count: u32, places: &mut [u8])
     lay_bytes(places, next, start as u64 + here as u64, count - here, each);
 }
 
+// The same three for places that are numbers.
 fn put_burst(places: &mut [u32], place: usize, start: u32, bytes: u32)
     requires { ⌜ place + 2 ≤ length (now places) ⌝ }
     ensures { λ _. ⌜ now (places .exit) ≡ sets (now (places .entry)) place (start ∷ bytes ∷ []) ⌝ }

@@ -1,7 +1,12 @@
+pub mod Acts
 pub mod Bytes
 pub mod Calls
 pub mod Claims
+pub mod Events
+pub mod Joined
+pub mod Judged
 pub mod Progress
 pub mod Starts
 pub mod Worked
+pub mod WorkedRuns
 pub mod Writes

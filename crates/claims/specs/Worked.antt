@@ -85,13 +85,13 @@ SimpleControlled =
 
 -- ---- chain mode: the descriptor at 0 moves 65 bytes from 89 to 163
 
--- the descriptor's words: next, source, destination, control and status, each with what lies between
-abbrev pub descriptor : List ℕ
-descriptor =
-    bytesOf 64 ++ replicate 4 0 ++ bytesOf 89 ++ replicate 4 0 ++ bytesOf 163 ++ replicate 4 0 ++ bytesOf 65 ++ bytesOf 0
+-- a descriptor's words: next, source, destination, control and status, each with what lies between
+abbrev pub descriptor : ℕ → ℕ → ℕ → ℕ → ℕ → List ℕ
+descriptor next source destination count status =
+    bytesOf next ++ replicate 4 0 ++ bytesOf source ++ replicate 4 0 ++ bytesOf destination ++ replicate 4 0 ++ bytesOf count ++ bytesOf status
 
 abbrev pub chainMemory : List ℕ
-chainMemory = descriptor ++ rising 200 32
+chainMemory = descriptor 64 89 163 65 0 ++ rising 200 32
 
 abbrev pub chainEngine : Engine
 chainEngine = engine true Fetch

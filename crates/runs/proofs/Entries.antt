@@ -29,7 +29,8 @@ idle Fetch e = absurd (never (sym e))
 idle (Move t) e = absurd (never (sym e))
 idle (Update o) e = absurd (never (sym e))
 
-advance-idle : (s : Engine) (m : List ℕ) (windows : List Window) → busyOf (s .phase) ≡ false → begun s m ≡ advanceOf s m windows
+-- an idle engine rests
+pub advance-idle : (s : Engine) (m : List ℕ) (windows : List Window) → busyOf (s .phase) ≡ false → begun s m ≡ advanceOf s m windows
 advance-idle s m windows e = advance-by s m windows (idle (s .phase) e) refl
 
 -- a walk without its number of steps

@@ -360,6 +360,19 @@ impl Engine {
         self.run_telling(memory, windows, n, |_| ())
     }
 
+    /// The same with the run's events, those of its steps in order: one a step, so none beside
+    /// every answer but 0.
+    pub fn run_events(
+        &mut self,
+        memory: &mut [u8],
+        windows: &[Window],
+        n: u16,
+    ) -> (u32, u16, Vec<Event>) {
+        let mut events = Vec::new();
+        let (answer, steps) = self.run_telling(memory, windows, n, |event| events.push(event));
+        (answer, steps, events)
+    }
+
     /// A run that tells the event of each step.
     #[inline]
     pub(crate) fn run_telling(

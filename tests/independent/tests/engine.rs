@@ -3,13 +3,14 @@
 
 mod common;
 
-use common::{descriptor, put};
+use common::{
+    chain, descriptor, fresh, put, set_error, simple, some_engine, some_memory, some_windows,
+};
 use independent::answer;
 use independent::cut::brute_plan;
 use independent::engine::{Engine, Event, Outcome, Phase, Transfer};
 use independent::memory::Window;
 use shared::random::Random;
-use shared::settings::{BEATS, WIDTHS};
 
 const CONTROL: u32 = 0x00;
 const STATUS: u32 = 0x04;
@@ -19,32 +20,10 @@ const SA: u32 = 0x18;
 const DA: u32 = 0x20;
 const BTT: u32 = 0x28;
 
-fn fresh() -> Engine {
-    Engine::fresh(4, 16)
-}
-
 fn status(engine: &Engine) -> u32 {
     let (answer, value) = engine.read(STATUS);
     assert_eq!(answer, 0);
     value
-}
-
-/// A chain engine started at `first` with `tail`.
-fn chain(first: u32, tail: u32) -> Engine {
-    let mut engine = fresh();
-    assert_eq!(engine.write(CONTROL, 8), 0);
-    assert_eq!(engine.write(CURRENT, first), 0);
-    assert_eq!(engine.write(TAIL, tail), 0);
-    engine
-}
-
-/// A simple engine started.
-fn simple(source: u32, destination: u32, count: u32) -> Engine {
-    let mut engine = fresh();
-    assert_eq!(engine.write(SA, source), 0);
-    assert_eq!(engine.write(DA, destination), 0);
-    assert_eq!(engine.write(BTT, count), 0);
-    engine
 }
 
 fn word(memory: &[u8], at: u32) -> u32 {
@@ -321,13 +300,6 @@ fn write_answers_over_all_conditions() {
                 }
             }
         }
-    }
-}
-
-/// Sets the first error bit, the second and so on; none for a number beyond them, or for 0.
-fn set_error(engine: &mut Engine, error: u32) {
-    if let Some(bit) = [4, 5, 6, 8, 9, 10].get((error as usize).wrapping_sub(1)) {
-        engine.errors = 1 << bit;
     }
 }
 
@@ -867,50 +839,6 @@ fn slow_step(engine: &Engine, memory: &[u8], windows: &[Window]) -> (Engine, Vec
     }
 }
 
-/// An address, mostly in or near a small memory.
-fn address(random: &mut Random, near: u32) -> u32 {
-    match random.below(12) {
-        0 => random.u32(),
-        1 => u32::MAX - random.below(200),
-        _ => random.below(near + 40),
-    }
-}
-
-fn some_engine(random: &mut Random, near: u32) -> Engine {
-    let mut engine = Engine::fresh(random.pick(&WIDTHS), random.pick(&BEATS));
-    engine.sg_mode = random.one_in(2);
-    engine.ioc_irq = random.one_in(2);
-    engine.err_irq = random.one_in(2);
-    engine.ioc_enable = random.one_in(2);
-    engine.err_enable = random.one_in(2);
-    engine.current = address(random, near) & !63;
-    engine.tail = if random.one_in(2) { engine.current } else { address(random, near) & !63 };
-    engine.next = address(random, near) & !63;
-    engine.held_next = address(random, near) & !63;
-    engine.sa = random.u32();
-    engine.btt = random.below(0x80_0000);
-    let outcomes = [Outcome::Complete, Outcome::Internal, Outcome::Slave, Outcome::Decode];
-    engine.phase = match random.below(10) {
-        0 => Phase::Idle,
-        1..=2 => Phase::Fetch,
-        3..=4 => Phase::Update(random.pick(&outcomes)),
-        _ => {
-            let total =
-                if random.one_in(2) { 1 + random.below(300) } else { 1 + random.below(0x7f_ffff) };
-            Phase::Move(Transfer {
-                source: address(random, near),
-                destination: address(random, near),
-                total,
-                moved: if random.one_in(2) { 0 } else { random.below(total.min(400)) },
-            })
-        }
-    };
-    if random.one_in(15) {
-        set_error(&mut engine, 1 + random.below(6));
-    }
-    engine
-}
-
 #[test]
 fn steps_are_those_of_the_slow_model() {
     let mut random = Random::new(5, 0);
@@ -919,24 +847,8 @@ fn steps_are_those_of_the_slow_model() {
     while taken < 60_000 {
         let length = if random.one_in(3) { 4096 + random.below(5000) } else { random.below(1200) };
         let mut engine = some_engine(&mut random, length);
-        let mut memory: Vec<u8> = (0..length).map(|_| random.u32() as u8).collect();
-        for at in (0..length.saturating_sub(31)).step_by(64) {
-            if random.one_in(2) {
-                let bytes = descriptor(
-                    address(&mut random, length),
-                    address(&mut random, length),
-                    address(&mut random, length),
-                    if random.one_in(4) { 0xff80_0000 } else { random.below(400) },
-                    if random.one_in(4) { random.u32() } else { 0 },
-                );
-                put(&mut memory, at, &bytes);
-            }
-        }
-        let mut windows = Vec::new();
-        for _ in 0..random.pick(&[0, 0, 1, 2, 16]) {
-            let size = if random.one_in(20) { random.u32() } else { random.below(30) };
-            windows.push((address(&mut random, length), size));
-        }
+        let mut memory = some_memory(&mut random, length);
+        let windows = some_windows(&mut random, length);
         let well = engine.well_formed();
         for _ in 0..8 {
             if !well {

@@ -55,6 +55,7 @@ const NUMBERED: &Groups = &[
     ("bit of a halt", &[8, 9, 10]),
     ("bit of an updated word", &[28, 29, 30, 31]),
     ("error bit after a run", &[4, 5, 6, 8, 9, 10]),
+    ("refusal of joined runs", &[1, 2, 6, 9]),
     ("flag raised", &FLAGS),
     ("flag raised alone", &FLAGS),
     ("number of windows that were taken", &[0, 1, 2, 3, 4, 8, 15, 16]),

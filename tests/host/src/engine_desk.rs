@@ -103,6 +103,7 @@ impl Side {
     }
 }
 
+#[derive(Clone)]
 pub struct EngineDesk {
     library: Side,
     reference: Side,
@@ -195,6 +196,25 @@ impl EngineDesk {
             self.changed = observe::Changed::default();
         }
         Ok(expected)
+    }
+
+    /// The events that the independent program tells of a run of at most `most` steps.
+    pub fn events(&self, most: u16) -> Vec<Stepped> {
+        let mut side = self.reference.clone();
+        let mut words = side.words();
+        reference::run_events(&mut words, side.memory.cells_mut(), side.windows.cells(), most)
+    }
+
+    /// The library's engine and all that was lent to it are the same in every word and byte.
+    pub fn same(&self, other: &EngineDesk) -> bool {
+        self.library == other.library
+    }
+
+    /// Both of them, told for a difference.
+    pub fn beside(&self, other: &EngineDesk) -> String {
+        let memory = self.library.memory.difference(&other.library.memory);
+        let (engine, other) = (self.library.engine.cells(), other.library.engine.cells());
+        format!("engine {engine:?}\n  and    {other:?}, first byte that differs {memory:?}")
     }
 
     fn tell(&self, call: Call, before: &EngineWords, given: Given, expected: Given) -> String {

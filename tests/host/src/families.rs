@@ -5,6 +5,7 @@ use crate::clocks::clocks;
 use crate::counts;
 use crate::coverage::Coverage;
 use crate::edges;
+use crate::joined;
 use crate::large;
 use crate::lone_calls::lone_calls;
 use crate::plans;
@@ -14,7 +15,7 @@ use shared::random::Random;
 type Case = fn(&mut Random, &mut Coverage) -> Result<(), String>;
 
 /// Cases that every run takes once.
-const ONCE: [(&str, Case); 13] = [
+const ONCE: [(&str, Case); 14] = [
     ("registers", edges::registers),
     ("interrupts", edges::interrupts),
     ("faults", edges::faults),
@@ -26,18 +27,20 @@ const ONCE: [(&str, Case); 13] = [
     ("most memory", large::most_memory),
     ("longest transfer", large::longest_transfer),
     ("longest runs", large::longest_runs),
+    ("runs joined at the limits", joined::at_the_limits),
     ("longest plans", plans::longest),
     ("longest counts", counts::longest),
 ];
 
 /// Families of random cases, in turn.
-const RANDOM: [(&str, Case); 6] = [
+const RANDOM: [(&str, Case); 7] = [
     ("session", session),
     ("lone calls", lone_calls),
     ("session", session),
     ("clocks", clocks),
     ("session", session),
     ("plans", plans::plans),
+    ("runs joined", joined::joined),
 ];
 
 /// How many cases come before the random ones.

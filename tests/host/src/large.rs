@@ -12,7 +12,8 @@ use shared::words::{
     WIDTH,
 };
 
-fn moving(source: u32, destination: u32, total: u32, moved: u32) -> EngineWords {
+/// A simple transfer with the largest settings, in its midst.
+pub fn moving(source: u32, destination: u32, total: u32, moved: u32) -> EngineWords {
     let mut words = fresh(128, 256);
     words[PHASE] = MOVE;
     words[SOURCE] = source;

@@ -9,6 +9,7 @@ mod coverage;
 mod edges;
 mod engine_desk;
 mod families;
+mod joined;
 mod large;
 mod lent;
 mod lone_calls;

@@ -76,6 +76,11 @@ pub fn step(words: &mut EngineWords, memory: &mut [u8], windows: &[u32]) -> Step
     };
     let (answer, event) = engine.step(memory, &windows);
     *words = words::of_engine(&engine);
+    told(answer, event)
+}
+
+/// An answer and the numbers that are told of an event.
+fn told(answer: u32, event: Event) -> Stepped {
     let (event, first, second) = match event {
         Event::None => (0, 0, 0),
         Event::Fetch { current } => (1, current, 0),
@@ -95,6 +100,21 @@ pub fn run(words: &mut EngineWords, memory: &mut [u8], windows: &[u32], most: u1
     let (answer, steps) = engine.run(memory, &windows, most);
     *words = words::of_engine(&engine);
     Ran { answer, steps: u32::from(steps) }
+}
+
+/// The events of a run, as its single steps would hand them back.
+pub fn run_events(
+    words: &mut EngineWords,
+    memory: &mut [u8],
+    windows: &[u32],
+    most: u16,
+) -> Vec<Stepped> {
+    let Some(mut engine) = words::engine(words) else {
+        return Vec::new();
+    };
+    let (answer, _, events) = engine.run_events(memory, &pairs(windows), most);
+    *words = words::of_engine(&engine);
+    events.into_iter().map(|event| told(answer, event)).collect()
 }
 
 pub fn bus_clock(words: &mut MonitorWords, width: u32, beats: u32, clock: &Clock) -> Clocked {

@@ -84,7 +84,7 @@ fn act(
 }
 
 /// Starts something, where the engine lets it; a busy engine or one in error is left or reset.
-fn start(
+pub fn start(
     random: &mut Random,
     desk: &mut EngineDesk,
     calm: bool,

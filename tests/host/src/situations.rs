@@ -128,6 +128,23 @@ pub const SITUATIONS: &[(&str, &[&str])] = &[
         ],
     ),
     (
+        "runs joined",
+        &[
+            "joint in the midst of a transfer",
+            "joint before a good update",
+            "joint between a failure and its update",
+            "joint before a fetch",
+            "joint at an engine that is idle again",
+            "joint after a run of no steps",
+            "runs joined on an idle engine",
+            "runs joined that end in an error",
+            "four runs joined or more",
+            "runs joined of 65,535 steps in all",
+            "runs joined that take 65,535 steps",
+            "runs joined, above 65,535 steps in all",
+        ],
+    ),
+    (
         "plans",
         &[
             "plan with room to spare",

@@ -78,7 +78,10 @@ pub fn at_the_limits(random: &mut Random, coverage: &mut Coverage) -> Result<(),
         let (after, ran) = runs(&desk, most, coverage)?;
         let steps: u32 = ran.iter().map(|ran| ran.steps).sum();
         if steps != 100_000 || !after.same(&expected) {
-            return Err(format!("runs of {most:?} took {steps} steps\n  {}", after.beside(&expected)));
+            return Err(format!(
+                "runs of {most:?} took {steps} steps\n  {}",
+                after.beside(&expected)
+            ));
         }
         coverage.see("runs joined, above 65,535 steps in all");
     }
@@ -164,13 +167,7 @@ fn single_steps(
     Ok(())
 }
 
-fn see(
-    desk: &EngineDesk,
-    whole: &EngineDesk,
-    budgets: &[u16],
-    one: &Ran,
-    coverage: &mut Coverage,
-) {
+fn see(desk: &EngineDesk, whole: &EngineDesk, budgets: &[u16], one: &Ran, coverage: &mut Coverage) {
     if one.answer != 0 {
         coverage.number("refusal of joined runs", one.answer);
         return;

@@ -19,7 +19,7 @@ use Rattle.runs.specs.Claims.{Acceptable}
 use Rattle.steps.proofs.Keeps.{advance-keeps}
 use Rattle.runs.proofs.Acceptable.{acceptable-unrefused, advance-acceptable}
 use Rattle.claims.specs.Transfers.{Act, step, write, read, act, after, steps, Own, left}
-use Rattle.claims.specs.Calls.{Sound, Accept, stepsOf, Run}
+use Rattle.claims.specs.Calls.{Accept, stepsOf, Run}
 
 -- ---- no step is refused
 

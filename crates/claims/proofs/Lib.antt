@@ -4,6 +4,7 @@ pub mod Calls
 pub mod Claims
 pub mod Events
 pub mod Joined
+pub mod JoinedWords
 pub mod Judged
 pub mod Progress
 pub mod Starts

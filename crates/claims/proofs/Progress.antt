@@ -19,7 +19,6 @@ use Rattle.cut.specs.Cut.{burstEnd, cut}
 use Rattle.cut.proofs.Reach.{ends}
 use Rattle.cut.proofs.Cutting.{cut-stop, cut-step}
 use Rattle.memory.specs.declared.window.Window.{Window}
-use Rattle.memory.specs.declared.verdict.Verdict.the-variants.{Okay}
 use Rattle.memory.specs.Burst.{copied}
 use Rattle.memory.proofs.Groups.{group-okay-fits, pair-okay-fits}
 use Rattle.state.specs.declared.engine.Engine.{Engine}

@@ -15,7 +15,7 @@ use Rattle.state.specs.declared.engine.Transfer.{Transfer}
 use Rattle.state.specs.declared.engine.Outcome.{Outcome}
 use Rattle.state.specs.declared.engine.Outcome.the-variants.{Internal}
 use Rattle.state.specs.declared.engine.Phase.{Phase}
-use Rattle.state.specs.declared.engine.Phase.the-variants.{Idle, Fetch, Move, Update}
+use Rattle.state.specs.declared.engine.Phase.the-variants.{Fetch, Move, Update}
 use Rattle.state.specs.declared.descriptor.Start.{Start as Begun}
 use Rattle.state.specs.Descriptor.{descriptorAt, startOf}
 use Rattle.state.specs.State.{phaseFits, wellFormedOf}

@@ -277,7 +277,10 @@ class Engine:
         return Step(Event(stepped.event), stepped.first, stepped.second)
 
     def run(self, memory, windows=(), most=0xFFFF):
-        """Steps until idle or until `most` steps are taken; how many were."""
+        """Steps until idle or until `most` steps are taken; how many were.
+
+        Runs one after the other, with the same windows and no write in between, are one run of the sum: RULES.md 6.8.
+        """
         return _judged(_library.belikumba_run(self._words, *_lent(memory), *_windows(windows), _number(most, 0xFFFF))).steps
 
 

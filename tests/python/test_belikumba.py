@@ -121,6 +121,21 @@ class Engines(Cases):
         self.assertEqual(engine.run(memory), 4)
         self.assertEqual(Descriptor.load(memory, 2048).status, 0x80000000)
 
+    def test_runs_joined(self):  # examples/joined-runs
+        runs = {}
+        for budgets in ((7,), (3, 4), (2, 0, 1, 9)):
+            memory = bytearray(range(256)) + bytearray(64)
+            Descriptor(next=64, source=100, destination=200, control=65).store(memory, 0)
+            Descriptor(next=128, source=32, destination=48, control=5).store(memory, 64)
+            engine = Engine()
+            engine.write(Register.CDMACR, Control.SGMODE)
+            engine.write(Register.TAILDESC, 64)
+            steps = [engine.run(memory, most=most) for most in budgets]
+            runs[budgets] = sum(steps), engine.words, bytes(memory)
+        steps, words, memory = runs[(7,)]
+        self.assertEqual((steps, memory[200:265], memory[48:53]), (7, bytes(range(100, 165)), bytes(range(32, 37))))
+        self.assertEqual(list(runs.values()), [(steps, words, memory)] * 3)
+
     def test_overlap(self):  # S3
         memory = bytearray(b"\x01\x02\x03" + bytes(61))
         engine = Engine()

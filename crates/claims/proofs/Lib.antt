@@ -4,7 +4,6 @@ pub mod Calls
 pub mod Claims
 pub mod Events
 pub mod Joined
-pub mod JoinedWords
 pub mod Judged
 pub mod Progress
 pub mod Starts

@@ -1,7 +1,6 @@
 pub mod Calls
 pub mod Events
 pub mod Joined
-pub mod JoinedWords
 pub mod Transfers
 pub mod Worked
 pub mod WorkedRuns

@@ -12,9 +12,9 @@ use Rattle.runs.specs.Run.{AfterRun, runOf}
 use Rattle.words.specs.EngineWords.{wordsOf, engineOf}
 use Rattle.words.proofs.Claims.{words}
 use Rattle.interface.specs.Calls.{WordsAfterRun, wordsAfter, wordsAfterRun, runWordsOf}
-use Rattle.claims.specs.JoinedWords.{JoinWords}
+use Rattle.callers.specs.JoinedWords.{JoinWords}
 use Rattle.claims.proofs.Joined.{join}
 use Rattle.claims.proofs.Judged.{Judged, bars, goes, judged}
 
 -- a choice within the same choice
 chosen : (t : Bool) (x y z : List ℕ) → when t x (when t y z) ≡ when t x z

@@ -232,9 +232,10 @@ struct belikumba_ran {
 /*
  * Steps until the engine is idle or `most` steps are taken; refused as a step is, once, at its start.
  *
- * Runs of 100 and then of 200 steps, with the same windows and with no write to engine or memory in between, are one run
- * of 300: the same words and bytes at the end, and their steps add up to its steps. Reading registers and the interrupt
- * line in between changes nothing. If the first run is refused, so is the second, with the same answer (RULES.md 6.8).
+ * Runs of 100 and then of 200 steps over the same memory and windows, with nothing in between that changes engine or
+ * memory, are one run of 300: the same words and bytes at the end, and their steps add up to its steps. To read registers
+ * or the interrupt line in between changes nothing. If the first run is refused, the second and the one of 300 get the
+ * same answer (RULES.md 6.8).
  */
 struct belikumba_ran belikumba_run(uint32_t engine[BELIKUMBA_ENGINE_WORDS], uint8_t *memory, size_t memory_bytes,
                                    const uint32_t *windows, size_t window_numbers, uint16_t most);

@@ -279,7 +279,8 @@ class Engine:
     def run(self, memory, windows=(), most=0xFFFF):
         """Steps until idle or until `most` steps are taken; how many were.
 
-        Runs one after the other, with the same windows and no write in between, are one run of the sum: RULES.md 6.8.
+        Runs one after the other over the same memory and windows, with nothing in between that changes engine or memory,
+        are one run of their sum: RULES.md 6.8.
         """
         return _judged(_library.belikumba_run(self._words, *_lent(memory), *_windows(windows), _number(most, 0xFFFF))).steps
 

@@ -2,7 +2,7 @@
 use mathlib.Core.Path.{_≡_, refl, sym, ap, ap₂, _∙_}
 use Prim.Native.Nat.{ℕ, _+_}
 use mathlib.Core.Bool.{Bool, true, false}
-use mathlib.Core.List.{List}
+use mathlib.Core.List.{List, _++_}
 use lib.Dec.{eqb}
 use borrow.Author.Tests.{eq-eqb, ne-eqb}
 use Rattle.kit.specs.Choice.{when}
@@ -11,6 +11,7 @@ use Rattle.state.specs.declared.engine.Engine.{Engine}
 use Rattle.runs.specs.Run.{AfterRun, runOf}
 use Rattle.words.specs.EngineWords.{wordsOf, engineOf}
 use Rattle.words.proofs.Claims.{words}
+use Rattle.claims.specs.Events.{eventsOf}
 use Rattle.interface.specs.Calls.{WordsAfterRun, wordsAfter, wordsAfterRun, runWordsOf}
 use Rattle.callers.specs.JoinedWords.{JoinWords}
 use Rattle.claims.proofs.Joined.{join}
@@ -41,12 +42,13 @@ join-words n k w m windows bytes =
     let second = ap (λ (s : Engine). wordsAfterRun (runOf k s (r .memory) windows) left) (holds n w m windows) in
     record {
       words = ap (λ (x : WordsAfterRun). x .words) second ∙ ap₂ (λ (a : ℕ) (s : Engine). wordsAfter a s left) (j .again) (j .engine)
-          ∙ chosen (eqb (r .answer) 0) (wordsOf (whole .engine)) (wordsOf (r .engine)) w ∙ ap (λ (a : ℕ). wordsAfter a (whole .engine) w) (j .refused);
+          ∙ chosen (eqb (r .answer) 0) (wordsOf (whole .engine)) (wordsOf (r .engine)) w ∙ ap (λ (a : ℕ). wordsAfter a (whole .engine) w) (j .answer);
       memory = ap (λ (x : WordsAfterRun). x .memory) second ∙ j .memory;
+      events = ap (λ (s : Engine). eventsOf n (engineOf w) m windows ++ eventsOf k s (r .memory) windows) (holds n w m windows) ∙ j .events;
       steps = ap (λ (x : WordsAfterRun). r .steps + x .steps) second ∙ j .steps;
-      refused = j .refused;
+      answer = j .answer;
       again = ap (λ (x : WordsAfterRun). x .answer) second ∙ j .again;
       unchanged = λ z.
           let (engine, memory, events, steps) = j .unchanged z in
-          (sym (no (wordsOf (whole .engine)) (ne-eqb (whole .answer) 0 (λ e. z (j .refused ∙ e))) refl), memory, steps);
+          (sym (no (wordsOf (whole .engine)) (ne-eqb (whole .answer) 0 (λ e. z (j .answer ∙ e))) refl), memory, events, steps);
     }

@@ -29,9 +29,9 @@ use Rattle.session.proofs.Turns.{turns-join}
 use Rattle.whole.proofs.Sound.{sessions}
 use Rattle.claims.specs.Transfers.{Act, after, steps, left}
 use Rattle.claims.specs.Calls.{stepsOf}
-use Rattle.claims.specs.Events.{events, eventsOf}
+use Rattle.claims.specs.Events.{eventsOf}
 use Rattle.callers.specs.Listed.{eventLines, StepsListed}
-use Rattle.claims.proofs.Acts.{events-length, steps-induct}
+use Rattle.claims.proofs.Acts.{events, events-length, steps-induct}
 use Rattle.claims.proofs.Judged.{Judged, bars, goes, judged}
 
 -- an ST goes on: steps are left, fewer than the most are taken, the step is not refused, and the engine is busy

@@ -16,7 +16,14 @@ use Rattle.runs.specs.Claims.{Acceptable}
 use Rattle.runs.proofs.Acceptable.{advance-acceptable}
 use Rattle.claims.specs.Transfers.{Act, step, write, read, act, after, steps, left}
 use Rattle.claims.specs.Calls.{stepsOf}
-use Rattle.claims.specs.Events.{events}
+use Rattle.claims.specs.Events.{eventsFrom}
+
+-- the events of the steps among some acts, in order
+abbrev pub events : Engine → List Act → List Event
+events s [] = []
+events s (step m windows ∷ more) = advanceOf s m windows .event ∷ events (act s (step m windows)) more
+events s (write offset value ∷ more) = events (act s (write offset value)) more
+events s (read offset ∷ more) = events s more
 
 -- ---- some acts and then others
 
@@ -100,3 +107,10 @@ module _ (windows : List Window) where
   steps-acceptable k =
       steps-induct (λ n s m acts. Acceptable s m k → Acceptable (after s acts) (left m s acts) k) (λ s m a. a) (λ n s m idle a. a)
       (λ n s m busy more a. more (advance-acceptable s m windows k a))
+
+  -- the events of a run are those of its steps
+  pub steps-events : (n : ℕ) (s : Engine) (m : List ℕ) → eventsFrom n s m windows ≡ events s (stepsOf n s m windows)
+  unfolding eventsFrom
+  steps-events =
+      steps-induct (λ n s m acts. eventsFrom n s m windows ≡ events s acts) (λ s m. refl) (λ n s m idle. rw (idle, eventsFrom))
+      (λ n s m busy more. rw (busy, eventsFrom) (ap (λ (e : List Event). advanceOf s m windows .event ∷ e) more))

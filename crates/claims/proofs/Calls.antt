@@ -1,5 +1,5 @@
 -- The claims of specs/Calls.antt: no step along any acts is refused, and a run is its steps.
-use mathlib.Core.Path.{_≡_, refl, sym, subst, _∙_}
+use mathlib.Core.Path.{_≡_, refl, sym, ap, subst, _∙_}
 use Prim.Native.Nat.{ℕ, zero, suc, _+_, _-_, _<_}
 use mathlib.Core.Bool.{Bool, true, false}
 use mathlib.Core.List.{List, [], _∷_}
@@ -57,10 +57,11 @@ record Walks (i : ℕ) (s : Engine) (m : List ℕ) (run : AfterWalk) (acts : Lis
   engine : run .engine ≡ after s acts
   memory : run .memory ≡ left m s acts
   count : run .steps ≡ i + steps acts
+  steps-only : length acts ≡ steps acts
 
 walks : (n i : ℕ) (r : AfterAdvance) (windows : List Window) → Walks i (r .engine) (r .memory) (walkFrom n i r windows) (stepsOf n (r .engine) (r .memory) windows)
 unfolding walkFrom stepsOf
-walks zero i r windows = record { own = tt; engine = refl; memory = refl; count = omega arith }
+walks zero i r windows = record { own = tt; engine = refl; memory = refl; count = omega arith; steps-only = refl }
 walks (suc n) i r windows = turn (walks n (suc i) next windows) (busyOf (r .engine .phase))
   where
     next : AfterAdvance
@@ -69,10 +70,11 @@ walks (suc n) i r windows = turn (walks n (suc i) next windows) (busyOf (r .engi
     turn : Walks (suc i) (next .engine) (next .memory) (walkFrom n (suc i) next windows) (stepsOf n (next .engine) (next .memory) windows) → (busy : Bool)
         → Walks i (r .engine) (r .memory) (elim busy [ true ↦ walkFrom n (suc i) next windows | false ↦ afterSteps i r ])
         (elim busy [ true ↦ step (r .memory) windows ∷ stepsOf n (next .engine) (next .memory) windows | false ↦ [] ])
-    turn k true = record { own = (refl, k .own); engine = k .engine; memory = k .memory; count = k .count ∙ omega arith }
-    turn k false = record { own = tt; engine = refl; memory = refl; count = omega arith }
+    turn k true =
+        record { own = (refl, k .own); engine = k .engine; memory = k .memory; count = k .count ∙ omega arith; steps-only = ap suc (k .steps-only) }
+    turn k false = record { own = tt; engine = refl; memory = refl; count = omega arith; steps-only = refl }
 
 pub run : Run
 run n s m windows =
     let k = walks n 0 (begun s m) windows in
-    record { own = k .own; engine = k .engine; memory = k .memory; count = k .count ∙ omega arith }
+    record { own = k .own; engine = k .engine; memory = k .memory; count = k .count ∙ omega arith; steps-only = k .steps-only }

@@ -17,8 +17,8 @@ use Rattle.runs.proofs.Entries.{advance-idle, step-refused, step-advances}
 use Rattle.runs.proofs.Walks.{walk-none, walk-idle, walk-step}
 use Rattle.claims.specs.Transfers.{Act, step, after, left}
 use Rattle.claims.specs.Calls.{stepsOf}
-use Rattle.claims.specs.Events.{events, eventsOf, EventsCounted, EachEvent, LastEvent}
-use Rattle.claims.proofs.Acts.{events-length, steps-idle, steps-busy, steps-induct}
+use Rattle.claims.specs.Events.{eventsFrom, eventsOf, EventsCounted, EachEvent, LastEvent}
+use Rattle.claims.proofs.Acts.{events, events-length, steps-idle, steps-busy, steps-induct, steps-events}
 use Rattle.claims.proofs.Judged.{Does, Judged, bars, goes, judged, unrefused}
 
 pub events-counted : EventsCounted
@@ -97,7 +97,8 @@ walk-last windows =
 
 pub last-event : LastEvent
 unfolding last
-last-event n s m windows = walk-last windows n s m 0 None ∙ go (events s (stepsOf n s m windows))
+last-event n s m windows =
+    walk-last windows n s m 0 None ∙ ap (last None) (sym (steps-events windows n s m)) ∙ go (eventsFrom n s m windows)
   where
     go : (told : List Event) → last None told ≡ getD told (length told - 1) None
     go [] = refl

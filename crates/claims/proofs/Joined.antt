@@ -11,9 +11,9 @@ use Rattle.runs.specs.Run.{AfterRun, runOf}
 use Rattle.runs.proofs.Acceptable.{acceptable-unrefused}
 use Rattle.claims.specs.Transfers.{Act, after, steps, left}
 use Rattle.claims.specs.Calls.{stepsOf}
-use Rattle.claims.specs.Events.{events, eventsOf}
+use Rattle.claims.specs.Events.{eventsOf}
 use Rattle.claims.specs.Joined.{Joined, Join, AfterRuns, sum, JoinAll}
-use Rattle.claims.proofs.Acts.{after-append, left-append, steps-append, events-append, steps-join}
+use Rattle.claims.proofs.Acts.{events, after-append, left-append, steps-append, events-append, steps-join}
 use Rattle.claims.proofs.Judged.{refusal, Does, Judged, bars, goes, judged, unrefused}
 
 module _ (n k : ℕ) (s : Engine) (m windows : List ℕ) where
@@ -30,7 +30,7 @@ module _ (n k : ℕ) (s : Engine) (m windows : List ℕ) where
         memory = ap (λ (x : AfterRun). x .memory) second ∙ b .memory ∙ sym (left-append m s acts more) ∙ sym (c .memory);
         events = ap₂ (λ (x y : List Event). x ++ y) (a .events) (told ∙ b .events) ∙ sym (events-append s acts more) ∙ sym (c .events);
         steps = ap₂ _+_ (a .steps) (ap (λ (x : AfterRun). x .steps) second ∙ b .steps) ∙ sym (steps-append acts more) ∙ sym (c .steps);
-        refused = a .answer ∙ sym (c .answer);
+        answer = a .answer ∙ sym (c .answer);
         again = ap (λ (x : AfterRun). x .answer) second ∙ b .answer ∙ same ∙ sym (a .answer);
         unchanged = λ refused.
             let e = none (λ z. refused (a .answer ∙ z)) in
@@ -90,7 +90,7 @@ join-all (n ∷ more) s m windows bytes =
       memory = later .memory;
     }) (join-all more (now .engine) (now .memory) windows (run-bytes n s m windows bytes))
     ∙ (λ i. record {
-      answers = j .refused i ∷ replicate (length more) ((j .again ∙ j .refused) i);
+      answers = j .answer i ∷ replicate (length more) ((j .again ∙ j .answer) i);
       events = j .events i;
       steps = j .steps i;
       engine = j .engine i;

@@ -17,8 +17,8 @@ use Rattle.runs.proofs.Acceptable.{unrefused-acceptable}
 use Rattle.runs.proofs.Entries.{run-refused, run-taken}
 use Rattle.claims.specs.Transfers.{Act, after, steps, left}
 use Rattle.claims.specs.Calls.{stepsOf}
-use Rattle.claims.specs.Events.{events, eventsOf}
-use Rattle.claims.proofs.Acts.{steps-acceptable}
+use Rattle.claims.specs.Events.{eventsOf}
+use Rattle.claims.proofs.Acts.{events, steps-acceptable, steps-events}
 use Rattle.claims.proofs.Calls.{run}
 
 module _ (s : Engine) (m windows : List ℕ) where
@@ -56,7 +56,7 @@ module _ (s : Engine) (m windows : List ℕ) where
         steps = ap (λ (x : AfterRun). x .steps) r ∙ k .count;
         engine = ap (λ (x : AfterRun). x .engine) r ∙ k .engine;
         memory = ap (λ (x : AfterRun). x .memory) r ∙ k .memory;
-        events = sym (yes _ e refl);
+        events = sym (yes _ e refl) ∙ steps-events (windowsOf windows) n s m;
       }
 
   -- every run is one or the other

@@ -17,8 +17,7 @@ use Rattle.registers.specs.Write.{registerWrittenOf}
 use Rattle.steps.specs.Step.{acceptOf, advanceOf}
 use Rattle.steps.specs.Claims.{Bytes}
 use Rattle.runs.specs.Run.{refusalOf, walkFrom, runOf}
-use Rattle.claims.specs.Calls.{stepsOf}
-use Rattle.claims.specs.Events.{eventsOf}
+use Rattle.claims.specs.Events.{eventsFrom, eventsOf}
 use Rattle.claims.specs.WorkedRuns.{before, RunsWorked}
 
 -- a test that every element is a byte
@@ -33,15 +32,17 @@ small-bytes (x ∷ more) e zero = ltb-true x 256 (both-left (ltb x 256) (small m
 small-bytes (x ∷ more) e (suc i) = small-bytes more (both-right (ltb x 256) (small more) e) i
 
 pub runs-worked : RunsWorked
-unfolding small legalWidth legalBeats reach burstEnd sick groupOf wellFormedOf registerWrittenOf acceptOf advanceOf refusalOf walkFrom runOf stepsOf eventsOf
+unfolding small legalWidth legalBeats reach burstEnd sick groupOf wellFormedOf registerWrittenOf acceptOf advanceOf refusalOf walkFrom runOf eventsFrom eventsOf
 runs-worked = record {
   premise = small-bytes before refl;
   answers = (refl, refl, refl);
   steps = (refl, refl, refl);
-  midway = refl;
+  midway = (refl, refl);
   engine = (refl, refl);
   memory = (refl, refl);
-  first = refl;
-  second = refl;
-  whole = refl;
+  firstEvents = refl;
+  secondEvents = refl;
+  wholeEvents = refl;
+  several = refl;
+  refused = refl;
 }

@@ -49,12 +49,13 @@ stepsOf zero s m windows = []
 stepsOf (suc n) s m windows =
     elim (busyOf (s .phase)) [ true ↦ step m windows ∷ stepsOf n (advanceOf s m windows .engine) (advanceOf s m windows .memory) windows | false ↦ [] ]
 
--- a run gives what its steps give, and only they touch the memory
+-- a run gives what its steps give, and only they touch the memory; each act is a step
 pub record Ran (s : Engine) (m : List ℕ) (run : AfterWalk) (acts : List Act) : Type 0 where
   pub own : Own m s acts
   pub engine : run .engine ≡ after s acts
   pub memory : run .memory ≡ left m s acts
   pub count : run .steps ≡ steps acts
+  pub steps-only : length acts ≡ steps acts
 
 abbrev pub Run : Type 0
 Run = (n : ℕ) (s : Engine) (m : List ℕ) (windows : List Window) → Ran s m (walkFrom n 0 (begun s m) windows) (stepsOf n s m windows)

@@ -32,18 +32,18 @@ module _ (n k : ℕ) (s : Engine) (m windows : List ℕ) where
   abbrev pub wholeEvents : List Event
   wholeEvents = eventsOf (n + k) s m windows
 
-  -- the same state, memory, events and sum of steps; the refusal of the first, or none, is that of the whole, and the
-  -- second's too; a refused whole has changed nothing
+  -- the two have the state, memory, events and sum of steps of the whole; all three have one answer; a refused whole has
+  -- changed nothing, taken no step and has no event
   pub record Joined : Type 0 where
     pub engine : second .engine ≡ whole .engine
     pub memory : second .memory ≡ whole .memory
     pub events : firstEvents ++ secondEvents ≡ wholeEvents
     pub steps : first .steps + second .steps ≡ whole .steps
-    pub refused : first .answer ≡ whole .answer
+    pub answer : first .answer ≡ whole .answer
     pub again : second .answer ≡ first .answer
     pub unchanged : (first .answer ≡ 0 → ⊥) → (whole .engine ≡ s) × (whole .memory ≡ m) × (wholeEvents ≡ []) × (whole .steps ≡ 0)
 
--- memory holds bytes, as any that a caller lends
+-- memory holds bytes, as any memory that a caller lends does
 abbrev pub Join : Type 0
 Join = (n k : ℕ) (s : Engine) (m windows : List ℕ) → Bytes m → Joined n k s m windows
 
@@ -72,15 +72,18 @@ runsOf (n ∷ more) s m windows =
       memory = later .memory;
     }
 
--- one run of at most n steps in the place of several: each has its answer
-abbrev pub oneRun : ℕ → ℕ → Engine → List ℕ → List ℕ → AfterRuns
-oneRun several n s m windows =
-    let now = runOf n s m windows in
-    record { answers = replicate several (now .answer); events = eventsOf n s m windows; steps = now .steps; engine = now .engine; memory = now .memory }
-
 abbrev pub sum : List ℕ → ℕ
 sum [] = 0
 sum (n ∷ more) = n + sum more
 
+-- in their place one run of the sum: each of them has its answer
 abbrev pub JoinAll : Type 0
-JoinAll = (most : List ℕ) (s : Engine) (m windows : List ℕ) → Bytes m → runsOf most s m windows ≡ oneRun (length most) (sum most) s m windows
+JoinAll = (budgets : List ℕ) (s : Engine) (m windows : List ℕ) → Bytes m
+    → let one = runOf (sum budgets) s m windows in
+    runsOf budgets s m windows ≡ record {
+      answers = replicate (length budgets) (one .answer);
+      events = eventsOf (sum budgets) s m windows;
+      steps = one .steps;
+      engine = one .engine;
+      memory = one .memory;
+    }

@@ -84,7 +84,8 @@ struct belikumba_planned belikumba_plan(uint32_t width, uint32_t beats, uint32_t
  * answers 0 and writes them all. The number is worked out by division: the time does not grow with the number of bursts.
  *
  * The engine cuts a transfer by its destination alone. For the number of its moves count from the address in DA: the count
- * from SA may be another number.
+ * from SA may be another number. If the destination is fixed (RULES.md 6.10), the moves are the count divided by
+ * width * (the smaller of beats and 16), rounded up.
  *
  * The answer is the first of these that holds; it is never 8, since nothing is lent:
  *
@@ -113,7 +114,9 @@ enum belikumba_register {
 enum belikumba_cdmacr {
     BELIKUMBA_CDMACR_TAILPNTREN = 1 << 1, /* always reads 1 */
     BELIKUMBA_CDMACR_RESET = 1 << 2,
-    BELIKUMBA_CDMACR_SGMODE = 1 << 3, /* chain mode */
+    BELIKUMBA_CDMACR_SGMODE = 1 << 3,         /* chain mode */
+    BELIKUMBA_CDMACR_KEY_HOLE_READ = 1 << 4,  /* the source is fixed at one word (RULES.md 6.10) */
+    BELIKUMBA_CDMACR_KEY_HOLE_WRITE = 1 << 5, /* the destination is */
     BELIKUMBA_CDMACR_IOC_IRQEN = 1 << 12,
     BELIKUMBA_CDMACR_ERR_IRQEN = 1 << 14,
     BELIKUMBA_CDMACR_IRQTHRESHOLD = 0xFF << 16 /* a field that always reads 1 */
@@ -122,7 +125,7 @@ enum belikumba_cdmacr {
 enum belikumba_cdmasr {
     BELIKUMBA_CDMASR_IDLE = 1 << 1,
     BELIKUMBA_CDMASR_SGINCLD = 1 << 3,    /* always reads 1 */
-    BELIKUMBA_CDMASR_DMAINTERR = 1 << 4,  /* a count of 0 */
+    BELIKUMBA_CDMASR_DMAINTERR = 1 << 4,  /* a count of 0, or a fixed side off the multiples of the width */
     BELIKUMBA_CDMASR_DMASLVERR = 1 << 5,  /* slave error in a burst */
     BELIKUMBA_CDMASR_DMADECERR = 1 << 6,  /* decode error in a burst */
     BELIKUMBA_CDMASR_SGINTERR = 1 << 8,   /* a descriptor that was complete already */
@@ -158,7 +161,7 @@ enum belikumba_status {
 /* ---- Engine (RULES.md 5 and 6) ---- */
 
 /*
- * An engine is kept by its caller, in 20 numbers that each call is lent:
+ * An engine is kept by its caller, in 22 numbers that each call is lent:
  *
  *      0  width of the bus in bytes           8  CURDESC, the current pointer
  *      1  beats of a burst at most            9  TAILDESC
@@ -173,13 +176,24 @@ enum belikumba_status {
  *                                            17  its destination
  *                                            18  its bytes in all
  *                                            19  its bytes moved so far; 16 to 19 are 0 in any other phase
+ *     20  Key Hole Read, 0 or 1              21  Key Hole Write, 0 or 1
  *
  * A fresh engine has its width and beats and 0 in all other words: uint32_t engine[BELIKUMBA_ENGINE_WORDS] = {4, 16};
  *
  * Any numbers may be lent. Words that no engine has, and those of an engine that is not well formed, get answer 9.
  * Each engine has one list of words: two engines are the same if their words are.
  */
-#define BELIKUMBA_ENGINE_WORDS 20
+#define BELIKUMBA_ENGINE_WORDS 22
+
+/*
+ * Rises whenever the words of an engine or a monitor change, or a function's arguments do. The shared library is named
+ * after it (libbelikumba.so.2), so a program never meets a library of another number; one that is linked with the
+ * archive is compiled again with its header. Keep this number beside words that are stored:
+ *
+ *     1  an engine has 20 words
+ *     2  it has 22. The words of 1 and then 0, 0 are the same engine.
+ */
+#define BELIKUMBA_INTERFACE 2
 
 struct belikumba_value {
     uint32_t answer; /* 0, 1, 3 or 9 */
@@ -191,7 +205,8 @@ struct belikumba_value belikumba_read(const uint32_t engine[BELIKUMBA_ENGINE_WOR
 
 /*
  * Writes `value` to the register at `offset`, and hands back the answer: 1, 9, 3, 5, 4, the first that holds, or 0.
- * A write of 0 to BTT is answered 0, sets DMAIntErr and Err_Irq and starts nothing.
+ * A write of 0 to BTT is answered 0, sets DMAIntErr and Err_Irq and starts nothing; so does, if a side is fixed, a count or
+ * a start of that side that is no multiple of the width.
  */
 uint32_t belikumba_write(uint32_t engine[BELIKUMBA_ENGINE_WORDS], uint32_t offset, uint32_t value);
 
@@ -202,8 +217,8 @@ struct belikumba_value belikumba_interrupt_line(const uint32_t engine[BELIKUMBA_
 enum belikumba_event {
     BELIKUMBA_NONE = 0,   /* the engine was idle, or the step was refused: 0, 0 */
     BELIKUMBA_FETCH = 1,  /* current pointer, 0 */
-    BELIKUMBA_MOVE = 2,   /* destination, bytes */
-    BELIKUMBA_FAULT = 3,  /* destination, number of the CDMASR bit */
+    BELIKUMBA_MOVE = 2,   /* destination (a fixed one's start), bytes */
+    BELIKUMBA_FAULT = 3,  /* destination likewise, number of the CDMASR bit */
     BELIKUMBA_UPDATE = 4, /* current pointer, status word */
     BELIKUMBA_HALT = 5    /* current pointer, number of the CDMASR bit */
 };

@@ -86,6 +86,8 @@ class Control(enum.IntFlag):
 
     RESET = 1 << 2
     SGMODE = 1 << 3
+    KEY_HOLE_READ = 1 << 4
+    KEY_HOLE_WRITE = 1 << 5
     IOC_IRQEN = 1 << 12
     ERR_IRQEN = 1 << 14
 
@@ -162,13 +164,13 @@ _CLOCK_FIELDS = ("bits", "address", "length", "size", "burst", "cache", "prot", 
 _Clock = _structure("_Clock", *_CLOCK_FIELDS)
 _Clocked = _structure("_Clocked", "answer", "count", "lowest")
 
-_ENGINE_WORDS = 20
+_ENGINE_WORDS = 22
 _MONITOR_WORDS = 14
 
 
 def _load():
     beside = os.path.join(os.path.dirname(os.path.abspath(__file__)), "..", "target", "host", "libbelikumba.so")
-    path = os.environ.get("BELIKUMBA_LIBRARY") or (beside if os.path.exists(beside) else "libbelikumba.so.1")
+    path = os.environ.get("BELIKUMBA_LIBRARY") or (beside if os.path.exists(beside) else "libbelikumba.so.2")
     try:
         library = ctypes.CDLL(path)
     except OSError as error:
@@ -244,7 +246,7 @@ def count(width, beats, start, count):
 
 
 class Engine:
-    """An engine; RULES.md 5 and 6. `words` are its 20 numbers, as include/belikumba.h has them."""
+    """An engine; RULES.md 5 and 6. `words` are its 22 numbers, as include/belikumba.h has them."""
 
     def __init__(self, width=4, beats=16, words=None):
         given = [width, beats] + [0] * (_ENGINE_WORDS - 2) if words is None else list(words)

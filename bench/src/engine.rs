@@ -43,7 +43,7 @@ trait Side: Copy {
 #[derive(Clone, Copy)]
 struct Proved;
 
-// SAFETY, in each call: by include/belikumba.h, whatever the numbers are, a call reaches the 20 words of the engine
+// SAFETY, in each call: by include/belikumba.h, whatever the numbers are, a call reaches the 22 words of the engine
 // and the lent bytes and windows alone, and keeps none of them.
 impl Side for Proved {
     type Engine = EngineWords;

@@ -158,8 +158,34 @@ class Engines(Cases):
         self.assertEqual(engine.read(Register.CDMASR) & Status.ERRORS, Status.DMAINTERR)
         self.refused(Answer.ERROR_SET, engine.write, Register.SA, 0)
         self.refused(Answer.SETTINGS, Engine(width=3).read, 0)
-        self.refused(Answer.STATE, Engine(words=[4, 16, 2] + [0] * 17).read, 0)
-        self.refused(Answer.STATE, getattr, Engine(words=[4, 16, 2] + [0] * 17), "interrupt_line")
+        self.refused(Answer.STATE, Engine(words=[4, 16, 2] + [0] * 19).read, 0)
+        self.refused(Answer.STATE, getattr, Engine(words=[4, 16, 2] + [0] * 19), "interrupt_line")
+
+    def test_key_hole(self):
+        memory = bytearray(range(256))
+        engine = Engine()
+        engine.write(Register.CDMACR, Control.KEY_HOLE_READ)
+        self.assertEqual(engine.read(Register.CDMACR), 0x00010012)
+        self.assertEqual(engine.words[20:], (1, 0))
+        engine.write(Register.SA, 8)
+        engine.write(Register.DA, 101)
+        engine.write(Register.BTT, 68)  # the example of RULES.md 6.10
+        self.refused(Answer.BUSY, engine.write, Register.CDMACR, 0)
+        self.assertEqual(engine.step(memory), Step(Event.MOVE, 101, 63))
+        self.assertEqual(engine.run(memory), 1)
+        self.assertEqual(memory[101:169], bytes((8, 9, 10, 11)) * 17)
+        self.assertEqual(memory[:101] + memory[169:], bytes(range(101)) + bytes(range(169, 256)))
+        engine.write(Register.CDMACR, Control.KEY_HOLE_WRITE)
+        engine.write(Register.SA, 1)
+        engine.write(Register.DA, 180)
+        engine.write(Register.BTT, 68)
+        self.assertEqual(engine.step(memory), Step(Event.MOVE, 180, 64))
+        self.assertEqual(engine.step(memory), Step(Event.MOVE, 180, 4))
+        self.assertEqual(memory[180:184], bytes((65, 66, 67, 68)))
+        engine.write(Register.BTT, 66)  # no multiple of 4
+        self.assertEqual(engine.read(Register.CDMASR) & Status.ERRORS, Status.DMAINTERR)
+        engine.write(Register.CDMACR, Control.RESET)
+        self.assertEqual(engine.words, Engine().words)
 
     def test_limits(self):
         engine = Engine()

@@ -5,6 +5,7 @@ use Rattle.cut.specs.Cut.{reach, burstEnd, cutWithin, cut}
 use Rattle.plan.specs.Plan.{measureOf}
 use Rattle.memory.specs.Windows.{sick}
 use Rattle.memory.specs.Verdict.{groupOf}
+use Rattle.sides.specs.Sides.{sideAnswer, sideRead, sideWritten}
 use Rattle.state.specs.State.{wellFormedOf}
 use Rattle.reads.specs.Read.{registerOf}
 use Rattle.registers.specs.Write.{registerWrittenOf}
@@ -15,7 +16,7 @@ use Rattle.monitor.specs.Monitor.{flagsOf}
 use Rattle.cases.specs.Cases.{Cases}
 
 pub cases : Cases
-unfolding legalWidth legalBeats reach burstEnd cutWithin cut measureOf sick groupOf wellFormedOf registerOf registerWrittenOf acceptOf advanceOf refusalOf walkFrom runOf flagOf raise validTable heldTable validFlags heldFlags flagsOf
+unfolding legalWidth legalBeats reach burstEnd cutWithin cut measureOf sick groupOf wellFormedOf registerOf registerWrittenOf acceptOf advanceOf refusalOf walkFrom runOf flagOf raise validTable heldTable validFlags heldFlags flagsOf sideAnswer sideRead sideWritten
 cases = record {
   p1 = refl;
   p2 = refl;

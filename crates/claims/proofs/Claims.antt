@@ -1,5 +1,5 @@
 -- The claims of specs/Transfers.antt: every transfer that ends without error or reset covers, copies, and takes its steps.
-use mathlib.Core.Path.{_≡_, refl, sym, ap, subst, _∙_}
+use mathlib.Core.Path.{_≡_, sym, ap, subst, _∙_}
 use mathlib.Core.Bool.{Bool, true, false}
 use mathlib.Core.Logic.{_⊎_, inl, inr}
 use mathlib.Core.List.{List, _∷_}
@@ -17,25 +17,30 @@ use Rattle.cut.proofs.Shortest.{well-cut}
 use Rattle.state.specs.declared.engine.Engine.{Engine}
 use Rattle.state.specs.declared.engine.Transfer.{Transfer}
 use Rattle.state.specs.State.{errorSetOf}
-use Rattle.claims.specs.Transfers.{Act, act, after, bursts, steps, Completes, Begin, Empty, Cover, Copied, Copy, Steps}
-use Rattle.claims.proofs.Progress.{Goes, settle, progress}
+use Rattle.claims.specs.Transfers.{Act, act, after, bursts, steps, Completes, Own, left, Begin, Empty, Cover, Steps}
+use Rattle.claims.proofs.Bytes.{Clear, held-none, Arrived}
+use Rattle.claims.proofs.Progress.{remainsBy, remains, Goes, settle, progress}
 use Rattle.claims.proofs.Starts.{Started, started, barren}
 
+-- all that is known of a transfer that ends well
 module _ (s : Engine) (t : Transfer) (first : Act) (rest : List Act) (c : Completes s t first rest) where
-  begun : Started s t first
+  pub begun : Started s t first
   begun = started s t first rest c
 
-  whole : Goes s t 0 (act s first) rest
-  whole = let b = begun in progress s t (c .legal) rest (act s first) 0 (b .some) (b .now) (c .runs) (c .good)
+  pub whole : Goes s t 0 (act s first) rest
+  whole = let b = begun in progress s t (c .legal) rest (act s first) 0 (b .suited .some) (b .now) (c .runs) (c .good)
 
-  moved : bursts s (first ∷ rest) ≡ cut (s .settings .width) (s .settings .beats) (t .destination) (t .destination + t .total)
-  moved =
-      begun .moves rest ∙ whole .moves
-      ∙ ap (λ (a : ℕ). cut (s .settings .width) (s .settings .beats) a (t .destination + t .total)) (add-zero (t .destination))
+  pub moved : bursts s (first ∷ rest) ≡ remains s t 0
+  moved = begun .moves rest ∙ whole .moves
 
   -- a fetch and an update in chain mode
   taken : steps (first ∷ rest) ≡ when (s .control .sgmode) 1 0 + (length (bursts s (first ∷ rest)) + when (s .control .sgmode) 1 0)
-  taken = begun .takes rest ∙ ap (λ (n : ℕ). when (s .control .sgmode) 1 0 + n) (whole .takes ∙ ap (λ (b : List Burst). length b + when (s .control .sgmode) 1 0) (sym (begun .moves rest ∙ whole .moves)))
+  taken = begun .takes rest ∙ ap (λ (n : ℕ). when (s .control .sgmode) 1 0 + n) (whole .takes ∙ ap (λ (b : List Burst). length b + when (s .control .sgmode) 1 0) (sym moved))
+
+  -- where only its own steps touch the memory, and no byte is written where one is read
+  pub arrives : (m : List ℕ) → Own m s (first ∷ rest) → Clear s t → Arrived s t m (left m s (first ∷ rest))
+  arrives m own clear =
+      subst (Arrived s t m) (sym (begun .leaves m rest own)) (whole .copies m m (begun .owned m rest own) (held-none s t clear m))
 
 pub begin : Begin
 begin s t first rest c = begun s t first rest c .start
@@ -53,25 +58,20 @@ empty s o first rest well out e runs = go (decide (errorSetOf (after (act s firs
         absurd (let z : _≡_ {A = ℕ} 0 1 = cc (b .internal ∙ complete) in omega arith)
 
 pub cover : Cover
-cover s t first rest c =
+cover s t first rest c plain =
     let w = s .settings .width in
     let l = s .settings .beats in
     let g = legal w l (c .legal) in
-    let e = sym (moved s t first rest c) in
+    let cuts = moved s t first rest c ∙ ap (λ (b : Bool). remainsBy s t b 0) plain
+    ∙ ap (λ (a : ℕ). cut w l a (t .destination + t .total)) (add-zero (t .destination)) in
+    let e = sym cuts in
     let p = well-cut w l (g .width-positive) (g .beats-positive) (t .destination) (t .destination + t .total) (omega arith) in
     record {
-      cuts = moved s t first rest c;
+      cuts = cuts;
       legal = subst (AllLegal w l) e (p .legal);
       tiles = subst (Tiles (t .destination) (t .destination + t .total)) e (p .tiles);
       shortest = λ others a h. subst (λ (b : List Burst). length b ≤ length others) e (p .shortest others a h);
     }
-
-pub copy : Copy
-copy s t first rest m c a =
-    let b = begun s t first rest c in
-    subst (Copied s t m) (sym (b .leaves m rest (a .own)))
-    (whole s t first rest c .copies m m (b .owned m rest (a .own))
-    (record { apart = a .apart; misses = a .misses; size = refl; bytes = λ i h. absurd (omega arith); others = λ x o. refl }))
 
 pub count : Steps
 count s t first rest c =

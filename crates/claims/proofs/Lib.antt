@@ -2,11 +2,14 @@ pub mod Acts
 pub mod Bytes
 pub mod Calls
 pub mod Claims
+pub mod Copies
 pub mod Events
 pub mod Joined
 pub mod Judged
+pub mod Pieces
 pub mod Progress
 pub mod Starts
 pub mod Worked
+pub mod WorkedHoles
 pub mod WorkedRuns
 pub mod Writes

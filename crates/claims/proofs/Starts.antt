@@ -3,12 +3,10 @@ use mathlib.Core.Path.{_≡_, refl, sym, ap, subst, _∙_}
 use mathlib.Core.Logic.{_⊎_, inl, inr}
 use mathlib.Core.Bool.{Bool, true, false}
 use mathlib.Core.List.{List, _∷_, _++_}
-use Prim.Native.Nat.{ℕ, _+_, _%_, _^_, _<_}
+use Prim.Native.Nat.{ℕ, _+_}
 use native.Mathlib.Omega.{arith}
-use lib.Dec.{eqb}
-use borrow.Author.Tests.{eqb-false}
 use Rattle.kit.specs.Choice.{when}
-use Rattle.kit.proofs.Choice.{cases, never}
+use Rattle.kit.proofs.Choice.{never}
 use Rattle.memory.specs.declared.window.Window.{Window}
 use Rattle.state.specs.declared.engine.Engine.{Engine}
 use Rattle.state.specs.declared.engine.Transfer.{Transfer}
@@ -17,9 +15,12 @@ use Rattle.state.specs.declared.engine.Outcome.the-variants.{Internal}
 use Rattle.state.specs.declared.engine.Phase.{Phase}
 use Rattle.state.specs.declared.engine.Phase.the-variants.{Fetch, Move, Update}
 use Rattle.state.specs.declared.descriptor.Start.{Start as Begun}
+use Rattle.state.specs.declared.descriptor.Start.the-variants.{Moves, Internal as InternalError}
+use Rattle.state.specs.Claims.{Suited}
 use Rattle.state.specs.Descriptor.{descriptorAt, startOf}
 use Rattle.state.specs.State.{phaseFits, wellFormedOf}
 use Rattle.registers.specs.Write.{writeOf}
+use Rattle.state.proofs.Start as begins
 use Rattle.state.proofs.WellFormed.{well-formed}
 use Rattle.steps.specs.declared.event.Event.{Event}
 use Rattle.steps.specs.declared.event.Event.the-variants.{Fetch as Fetched}
@@ -34,7 +35,7 @@ module _ (s : Engine) (out : inTransfer (s .phase) ≡ false) where
 
   -- where the descriptor in memory m leads
   abbrev described : List ℕ → Phase
-  described m = let d = descriptorAt m (s .pointers .current) in phaseAfterFetchOf (startOf (d .source) (d .destination) (d .count))
+  described m = let d = descriptorAt m (s .pointers .current) in phaseAfterFetchOf (startOf (s .settings .width) (s .control) (d .source) (d .destination) (d .count))
 
   -- the step to r fetched it
   record Took (m : List ℕ) (r : AfterAdvance) : Type 0 where
@@ -51,7 +52,7 @@ module _ (s : Engine) (out : inTransfer (s .phase) ≡ false) where
   step-starts m windows (rests e) = inl out
   step-starts m windows (halts e b f) = inl refl
   step-starts m windows (fetches e okay ready) =
-      inr (record { fetching = e; event = refl; memory = refl; same = record { settings = refl; mode = refl; current = refl }; phase = refl })
+      inr (record { fetching = e; event = refl; memory = refl; same = record { settings = refl; mode = refl; source = refl; destination = refl; current = refl }; phase = refl })
   step-starts m windows (moves u e okay) = absurd (never (sym out ∙ ap inTransfer e))
   step-starts m windows (faults u e o f b g) = absurd (never (sym out ∙ ap inTransfer e))
   step-starts m windows (updates o e okay) = absurd (never (sym out ∙ ap inTransfer e))
@@ -78,19 +79,21 @@ module _ (s : Engine) (t : Transfer) where
   inside : {p : Phase} → p ≡ Move t → inTransfer p ≡ false → ⊥
   inside e out = never (sym out ∙ ap inTransfer e)
 
-  -- a description that leads to the move of t, by its count
-  says : (source destination total : ℕ) → phaseAfterFetchOf (startOf source destination total) ≡ Move t
-      → (t ≡ record { source = source; destination = destination; total = total; moved = 0 }) × (0 < total)
-  says source destination total =
-      cases (λ (x : Begun). phaseAfterFetchOf x ≡ Move t → (t ≡ record { source = source; destination = destination; total = total; moved = 0 }) × (0 < total)) (eqb total 0)
-      (λ _ e. absurd (let z : _≡_ {A = ℕ} 0 1 = cc in omega arith))
-      (λ z e. (cc, omega (arith, eqb-false total 0 z)))
+  -- a description that leads to the move of t
+  says : (source destination total : ℕ) → phaseAfterFetchOf (startOf (s .settings .width) (s .control) source destination total) ≡ Move t
+      → begins.Started (s .settings .width) (s .control) source destination total t
+  says source destination total e = go (startOf (s .settings .width) (s .control) source destination total) refl e
+    where
+      go : (x : Begun) → startOf (s .settings .width) (s .control) source destination total ≡ x → phaseAfterFetchOf x ≡ Move t
+          → begins.Started (s .settings .width) (s .control) source destination total t
+      go (Moves u) f g = begins.started (s .settings .width) (s .control) source destination total t (f ∙ cc g)
+      go InternalError f g = absurd (let z : _≡_ {A = ℕ} 0 1 = cc g in omega arith)
 
   -- the first act of a transfer: it is a step exactly in chain mode, moves nothing and leaves the memory
   pub record Started (first : Act) : Type 0 where
     pub start : Start s t first
     pub now : Now s t (Move (movedTo t 0)) (act s first)
-    pub some : 0 < t .total
+    pub suited : Suited (s .settings .width) (s .control) (t .source) (t .destination) (t .total)
     pub moves : (acts : List Act) → bursts s (first ∷ acts) ≡ bursts (act s first) acts
     pub takes : (acts : List Act) → steps (first ∷ acts) ≡ when (s .control .sgmode) 1 0 + steps acts
     pub owned : (m : List ℕ) (acts : List Act) → Own m s (first ∷ acts) → Own m (act s first) acts
@@ -98,20 +101,21 @@ module _ (s : Engine) (t : Transfer) where
 
   started-now : (x : Engine) → Same s x → t .moved ≡ 0 → x .phase ≡ Move t → Now s t (Move (movedTo t 0)) x
   started-now x same unmoved e =
-      record { phase = e ∙ ap (λ (k : ℕ). Move (movedTo t k)) unmoved; settings = same .settings; mode = same .mode; current = same .current }
+      record { phase = e ∙ ap (λ (k : ℕ). Move (movedTo t k)) unmoved; settings = same .settings; mode = same .mode; source = same .source; destination = same .destination; current = same .current }
 
   by-step : (m : List ℕ) (windows : List Window) → wellFormedOf s ≡ true → (out : inTransfer (s .phase) ≡ false)
       → advanceOf s m windows .engine .phase ≡ Move t → StepStarts s out m (advanceOf s m windows) → Started (step m windows)
   by-step lent windows well out e (inl o) = absurd (inside e o)
   by-step lent windows well out e (inr k) =
       let x = descriptorAt lent (s .pointers .current) in
-      let (d, some) = says (x .source) (x .destination) (x .count) (sym (k .phase) ∙ e) in
+      let begun = says (x .source) (x .destination) (x .count) (sym (k .phase) ∙ e) in
+      let d = begun .same in
       let chain = chain-mode s well (k .fetching) in
       let x = advanceOf s lent windows .engine in
       record {
         start = fetch lent windows (k .fetching) chain (k .event) d;
         now = started-now x (k .same) (ap (λ (y : Transfer). y .moved) d) e;
-        some = subst (λ (n : ℕ). 0 < n) (sym (ap (λ (y : Transfer). y .total) d)) some;
+        suited = subst (λ (y : Transfer). Suited (s .settings .width) (s .control) (y .source) (y .destination) (y .total)) (sym d) (begun .suited);
         moves = λ acts. ap (λ (y : Event). burstsOf y ++ bursts x acts) (k .event);
         takes = λ acts. omega (arith, ap (λ (y : Bool). when {A = ℕ} y 1 0) chain);
         owned = λ m acts own. subst (λ (y : List ℕ). Own y x acts) (k .memory ∙ own .0) (own .1);
@@ -123,11 +127,10 @@ module _ (s : Engine) (t : Transfer) where
   by-write offset v e (inl o) = absurd (inside e o)
   by-write offset v e (inr k) =
       let d : t ≡ asked s offset v = cc (sym e ∙ k .phase) in
-      let nonzero = eqb-false (v % 2 ^ 23) 0 (k .nonzero) in
       record {
         start = subst (λ (x : ℕ). Start s t (write x v)) (sym (k .place)) (count v (k .idle) (k .simple) d);
         now = started-now (writeOf s offset v .engine) (k .same) (ap (λ (y : Transfer). y .moved) d) e;
-        some = omega (arith, ap (λ (y : Transfer). y .total) d, nonzero);
+        suited = subst (λ (y : Transfer). Suited (s .settings .width) (s .control) (y .source) (y .destination) (y .total)) (sym d) (k .suited);
         moves = λ acts. refl;
         takes = λ acts. omega (arith, ap (λ (y : Bool). when {A = ℕ} y 1 0) (k .simple));
         owned = λ m acts own. own;
@@ -145,11 +148,11 @@ module _ (s : Engine) (o : Outcome) (well : wellFormedOf s ≡ true) (out : inTr
   outside : {p : Phase} → p ≡ Update o → inTransfer p ≡ false → ⊥
   outside e x = never (sym x ∙ ap inTransfer e)
 
-  zero-count : (source destination total : ℕ) → phaseAfterFetchOf (startOf source destination total) ≡ Update o → Internal ≡ o
-  zero-count source destination total =
-      cases (λ (x : Begun). phaseAfterFetchOf x ≡ Update o → Internal ≡ o) (eqb total 0) (λ _ e. cc) (λ _ e. absurd (let z : _≡_ {A = ℕ} 0 1 = cc in omega arith))
+  unmoved : (x : Begun) → phaseAfterFetchOf x ≡ Update o → Internal ≡ o
+  unmoved (Moves u) e = absurd (let z : _≡_ {A = ℕ} 0 1 = cc e in omega arith)
+  unmoved InternalError e = cc e
 
-  -- an update without a move is of a count of 0, in chain mode
+  -- an update without a move is of a transfer that did not start, in chain mode
   pub record Barren (first : Act) : Type 0 where
     pub internal : Internal ≡ o
     pub chain : s .control .sgmode ≡ true
@@ -161,9 +164,9 @@ module _ (s : Engine) (o : Outcome) (well : wellFormedOf s ≡ true) (out : inTr
       go : StepStarts s out m (advanceOf s m windows) → Barren (step m windows)
       go (inl x) = absurd (outside e x)
       go (inr k) = record {
-        internal = let d = descriptorAt m (s .pointers .current) in zero-count (d .source) (d .destination) (d .count) (sym (k .phase) ∙ e);
+        internal = let d = descriptorAt m (s .pointers .current) in unmoved (startOf (s .settings .width) (s .control) (d .source) (d .destination) (d .count)) (sym (k .phase) ∙ e);
         chain = chain-mode s well (k .fetching);
-        now = λ t. record { phase = e; settings = k .same .settings; mode = k .same .mode; current = k .same .current };
+        now = λ t. record { phase = e; settings = k .same .settings; mode = k .same .mode; source = k .same .source; destination = k .same .destination; current = k .same .current };
       }
   barren (write offset v) e = go (write-starts s out offset v)
     where

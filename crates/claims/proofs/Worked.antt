@@ -7,13 +7,14 @@ use Rattle.kit.proofs.Choice.{never}
 use Rattle.cut.specs.Cut.{reach, burstEnd}
 use Rattle.memory.specs.Windows.{sick}
 use Rattle.memory.specs.Verdict.{groupOf}
+use Rattle.sides.specs.Sides.{sideAnswer, sideRead, sideWritten}
 use Rattle.state.specs.State.{wellFormedOf}
 use Rattle.registers.specs.Write.{registerWrittenOf}
 use Rattle.steps.specs.Step.{acceptOf, advanceOf}
 use Rattle.claims.specs.Worked.{SimpleWorked, SimpleCleared, SimpleControlled, ChainWorked, ChainReplaced}
 
 pub simple-worked : SimpleWorked
-unfolding legalWidth legalBeats reach burstEnd sick groupOf wellFormedOf registerWrittenOf acceptOf advanceOf
+unfolding legalWidth legalBeats reach burstEnd sick groupOf wellFormedOf registerWrittenOf acceptOf advanceOf sideAnswer sideRead sideWritten
 simple-worked = record {
   completes = record {
     legal = refl;
@@ -29,15 +30,15 @@ simple-worked = record {
 }
 
 pub simple-cleared : SimpleCleared
-unfolding legalWidth legalBeats reach burstEnd sick groupOf wellFormedOf registerWrittenOf advanceOf
+unfolding legalWidth legalBeats reach burstEnd sick groupOf wellFormedOf registerWrittenOf advanceOf sideAnswer sideRead sideWritten
 simple-cleared = (refl, refl, refl)
 
 pub simple-controlled : SimpleControlled
-unfolding legalWidth legalBeats reach burstEnd sick groupOf wellFormedOf registerWrittenOf advanceOf
+unfolding legalWidth legalBeats reach burstEnd sick groupOf wellFormedOf registerWrittenOf advanceOf sideAnswer sideRead sideWritten
 simple-controlled = (refl, refl, refl)
 
 pub chain-worked : ChainWorked
-unfolding legalWidth legalBeats reach burstEnd sick groupOf wellFormedOf registerWrittenOf acceptOf advanceOf
+unfolding legalWidth legalBeats reach burstEnd sick groupOf wellFormedOf registerWrittenOf acceptOf advanceOf sideAnswer sideRead sideWritten
 chain-worked = record {
   completes = record {
     legal = refl;
@@ -53,5 +54,5 @@ chain-worked = record {
 }
 
 pub chain-replaced : ChainReplaced
-unfolding legalWidth legalBeats reach burstEnd sick groupOf wellFormedOf registerWrittenOf acceptOf advanceOf
+unfolding legalWidth legalBeats reach burstEnd sick groupOf wellFormedOf registerWrittenOf acceptOf advanceOf sideAnswer sideRead sideWritten
 chain-replaced = (refl, refl)

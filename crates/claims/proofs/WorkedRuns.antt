@@ -12,6 +12,7 @@ use Rattle.kit.proofs.Choice.{both-left, both-right}
 use Rattle.cut.specs.Cut.{reach, burstEnd}
 use Rattle.memory.specs.Windows.{sick}
 use Rattle.memory.specs.Verdict.{groupOf}
+use Rattle.sides.specs.Sides.{sideAnswer, sideRead, sideWritten}
 use Rattle.state.specs.State.{wellFormedOf}
 use Rattle.registers.specs.Write.{registerWrittenOf}
 use Rattle.steps.specs.Step.{acceptOf, advanceOf}
@@ -26,13 +27,13 @@ small [] = true
 small (x ∷ more) = both (ltb x 256) (small more)
 
 small-bytes : (m : List ℕ) → small m ≡ true → Bytes m
-unfolding small
+unfolding small sideAnswer sideRead sideWritten
 small-bytes [] e i = omega arith
 small-bytes (x ∷ more) e zero = ltb-true x 256 (both-left (ltb x 256) (small more) e)
 small-bytes (x ∷ more) e (suc i) = small-bytes more (both-right (ltb x 256) (small more) e) i
 
 pub runs-worked : RunsWorked
-unfolding small legalWidth legalBeats reach burstEnd sick groupOf wellFormedOf registerWrittenOf acceptOf advanceOf refusalOf walkFrom runOf eventsFrom eventsOf
+unfolding small legalWidth legalBeats reach burstEnd sick groupOf wellFormedOf registerWrittenOf acceptOf advanceOf refusalOf walkFrom runOf eventsFrom eventsOf sideAnswer sideRead sideWritten
 runs-worked = record {
   premise = small-bytes before refl;
   answers = (refl, refl, refl);

@@ -122,7 +122,8 @@ pub data Start (s : Engine) (t : Transfer) : Act → Type 0 where
 abbrev pub Begin : Type 0
 Begin = (s : Engine) (t : Transfer) (first : Act) (rest : List Act) → Completes s t first rest → Start s t first
 
--- a fetch that goes to its update at once, as its count is 0, moves nothing and never ends without error
+-- a fetch that goes to its update at once, as its count is 0 or a fixed side is off the multiples of the width, never ends
+-- without error
 abbrev pub Empty : Type 0
 Empty = (s : Engine) (outcome : Outcome) (first : Act) (rest : List Act) → wellFormedOf s ≡ true → inTransfer (s .phase) ≡ false
     → act s first .phase ≡ Update outcome → Runs (act s first) rest → errorSetOf (after (act s first) rest .status .fault) ≡ true
@@ -137,9 +138,9 @@ pub record Covered (w l : ℕ) (t : Transfer) (moved : List Burst) : Type 0 wher
   pub tiles : Tiles (t .destination) (t .destination + t .total) moved
   pub shortest : (others : List Burst) → AllLegal w l others → Covers (t .destination) (t .destination + t .total) others → length moved ≤ length others
 
--- whatever memory and windows each step is lent
+-- whatever memory and windows each step is lent, if the destination increments; the source may be fixed
 abbrev pub Cover : Type 0
-Cover = (s : Engine) (t : Transfer) (first : Act) (rest : List Act) → Completes s t first rest
+Cover = (s : Engine) (t : Transfer) (first : Act) (rest : List Act) → Completes s t first rest → s .control .keyholewrite ≡ false
     → Covered (s .settings .width) (s .settings .beats) t (bursts s (first ∷ rest))
 
 -- ---- claim 2: copy
@@ -183,13 +184,14 @@ pub record Copied (s : Engine) (t : Transfer) (m m′ : List ℕ) : Type 0 where
   pub status : s .control .sgmode ≡ true → wordAt m′ (statusPlace s) ≡ 0x80000000
   pub others : (x : ℕ) → Outside x (t .destination) (t .total) → (s .control .sgmode ≡ true → Outside x (statusPlace s) 4) → getD m′ x 0 ≡ getD m x 0
 
+-- if both sides increment
 abbrev pub Copy : Type 0
-Copy = (s : Engine) (t : Transfer) (first : Act) (rest : List Act) (m : List ℕ) → Completes s t first rest → Alone s t m (first ∷ rest)
-    → Copied s t m (left m s (first ∷ rest))
+Copy = (s : Engine) (t : Transfer) (first : Act) (rest : List Act) (m : List ℕ) → Completes s t first rest → s .control .keyholeread ≡ false
+    → s .control .keyholewrite ≡ false → Alone s t m (first ∷ rest) → Copied s t m (left m s (first ∷ rest))
 
 -- ---- claim 3: steps
 
--- in chain mode a fetch, the bursts and an update; in simple mode the bursts
+-- in chain mode a fetch, the bursts and an update; in simple mode the bursts; whichever sides are fixed
 pub record Counted (s : Engine) (acts : List Act) : Type 0 where
   pub chain : s .control .sgmode ≡ true → steps acts ≡ 2 + length (bursts s acts)
   pub simple : s .control .sgmode ≡ false → steps acts ≡ length (bursts s acts)

@@ -26,11 +26,11 @@ abbrev pub rising : ℕ → ℕ → List ℕ
 rising zero a = []
 rising (suc n) a = a ∷ rising n (suc a)
 
--- width 4, 16 beats, no error, IOC_Irq still set from an earlier transfer
+-- width 4, 16 beats, both sides incrementing, no error, IOC_Irq still set from an earlier transfer
 abbrev pub engine : Bool → Phase → Engine
 engine chain phase = record {
   settings = record { width = 4; beats = 16 };
-  control = record { sgmode = chain; iocen = true; erren = true };
+  control = record { sgmode = chain; keyholeread = false; keyholewrite = false; iocen = true; erren = true };
   status = record { fault = Clear; ioc = true; err = false };
   pointers = record { current = 0; tail = 0; next = 0; heldnext = 0 };
   simple = record { sa = 3; da = 100; btt = 0 };

@@ -15,6 +15,7 @@ cut-claims = record {
 
 pub cut-unique : Unique
 cut-unique = record {
+  least = λ a b r s e f. e ∙ sym f;
   span = λ w l r s e f. e ∙ sym f;
   words-left = λ w l a r s e f. e ∙ sym f;
   bytes-within = λ words a n r s e f. e ∙ sym f;

@@ -1,5 +1,5 @@
 -- What the definitions of this crate have to imply: proved in proofs/Claims.antt.
-use Prim.Native.Nat.{ℕ, _-_, _*_, _%_, _≤_, _<_}
+use Prim.Native.Nat.{ℕ, _-_, _*_, _%_, _≤_, _<_, min}
 use mathlib.Core.Path.{_≡_}
 use lib.ListN.{length}
 use Rattle.cut.specs.Cut.{page, cut, bytesWithin, burstBytes}
@@ -18,6 +18,7 @@ pub record Claims : Type 0 where
 
 -- two results that one contract allows are equal
 pub record Unique : Type 0 where
+  pub least : (a b r s : ℕ) → r ≡ min a b → s ≡ min a b → r ≡ s
   pub span : (w l r s : ℕ) → r ≡ w * l → s ≡ w * l → r ≡ s
   pub words-left : (w l a r s : ℕ) → r ≡ w * l - a % w → s ≡ w * l - a % w → r ≡ s
   pub bytes-within : (words a n r s : ℕ) → r ≡ bytesWithin words a n → s ≡ bytesWithin words a n → r ≡ s

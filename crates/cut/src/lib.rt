@@ -12,7 +12,7 @@ pub struct Burst {
 // A burst never leaves the page of this many bytes that it starts in.
 pub const PAGE: u64 = 4096;
 
-fn least(a: u64, b: u64) -> u64
+pub fn least(a: u64, b: u64) -> u64
     ensures { λ r. ⌜ r ≡ min a b ⌝ }
 {
     if a < b { a } else { b }

@@ -1,12 +1,12 @@
 -- A burst that goes on, moved over the words: what a step leaves.
 use mathlib.Core.Path.{_≡_, refl, sym, ap, ap₂, subst, _∙_}
 use Prim.Native.Nat.{ℕ, _+_, _/_, _^_, _≤_, _<_}
-use mathlib.Core.Bool.{true, _&&_}
+use mathlib.Core.Bool.{true, false, _&&_}
 use mathlib.Core.List.{List}
 use native.Mathlib.Omega.{arith}
 use lib.ListN.{length, set}
-use lib.Dec.{leb}
-use borrow.Author.Tests.{leb-true}
+use lib.Dec.{eqb, leb}
+use borrow.Author.Tests.{eqb-true, leb-true}
 use Rattle.kit.specs.Limits.{mostMemory, mostWindows}
 use Rattle.kit.specs.Settings.{legalOf}
 use Rattle.kit.specs.declared.settings.Settings.{Settings}
@@ -41,16 +41,27 @@ pub record Judged (w : List ℕ) (size windows : ℕ) : Type 0 where
   pub small : size ≤ mostMemory
   pub few : windows ≤ mostWindows
   pub moves : movesOf w ≡ true
+  pub source : eqb (word w 20) 1 ≡ false
+  pub destination : eqb (word w 21) 1 ≡ false
 
 pub judged : (w : List ℕ) (size windows : ℕ) → goesOnOf w size windows ≡ true → Judged w size windows
 judged w size windows e =
     let legal = legalOf (settingsFrom w) in
     let small = leb size mostMemory in
     let few = leb windows mostWindows in
-    let a = apart (legal && small && few) (movesOf w) e in
+    let d = apart (legal && small && few && movesOf w && eqb (word w 20) 0) (eqb (word w 21) 0) e in
+    let h = apart (legal && small && few && movesOf w) (eqb (word w 20) 0) (d .0) in
+    let a = apart (legal && small && few) (movesOf w) (h .0) in
     let b = apart (legal && small) few (a .0) in
     let c = apart legal small (b .0) in
-    record { legal = c .0; small = leb-true size mostMemory (c .1); few = leb-true windows mostWindows (b .1); moves = a .1 }
+    record {
+      legal = c .0;
+      small = leb-true size mostMemory (c .1);
+      few = leb-true windows mostWindows (b .1);
+      moves = a .1;
+      source = ap (λ (x : ℕ). eqb x 1) (eqb-true (word w 20) 0 (h .1));
+      destination = ap (λ (x : ℕ). eqb x 1) (eqb-true (word w 21) 0 (d .1));
+    }
 
 -- where no burst was moved all is as it was
 pub nothing : (w m windows after : List ℕ) (x : Settings) (t : Transfer) {r : MovedOn} → r ≡ Nothing → MovesOn x t (windowsOf windows) m r after
@@ -78,7 +89,7 @@ module _ (w m windows : List ℕ) (bytes : Bytes m) (j : Judged w (length m) (le
         subst (λ (q : MovedOn). MovesOn (settingsFrom w) (transferFrom w) (windowsOf windows) m q after) g
         (subst (λ (u : Transfer). MovesOn (settingsFrom w) u (windowsOf windows) m r after) f
         (subst (λ (y : Settings). MovesOn y t (windowsOf windows) m r after) e moves))
-        (engineFrom w) (record { set = refl; phase = inside .phase })
+        (engineFrom w) (record { set = refl; source = j .source; destination = j .destination; phase = inside .phase })
 
     module _ (moved : advanceOf (engineFrom w) m (windowsOf windows) ≡ record { event = MoveEvent b; engine = further b; memory = after }) where
       -- the sum of the bytes moved is a word

@@ -1,5 +1,5 @@
-// include/belikumba.h, "Engine": a step in the midst of a transfer. A burst that goes on leaves all words but the last,
-// so that the engine need be neither read nor stored.
+// include/belikumba.h, "Engine": a step in the midst of a transfer whose sides both increment. A burst that goes on changes
+// the bytes moved alone, so that the engine need be neither read nor stored.
 use kit::limits::MOST_MEMORY;
 use kit::limits::MOST_WINDOWS;
 use kit::settings::legal;
@@ -11,15 +11,20 @@ use words::engine_words::transfer;
 ghost use mathlib.Core.Path.{_≡_};
 ghost use Rattle.interface.specs.Moving.{goesOnOf, MovesWords};
 
-// Whether a step is not refused, and the engine is in the midst of a transfer.
-fn goes_on(words: &[u32; 20], size: usize, windows: usize) -> bool
+// Whether a step is not refused, and the engine is in the midst of such a transfer.
+fn goes_on(words: &[u32; 22], size: usize, windows: usize) -> bool
     ensures { λ r. ⌜ r ≡ goesOnOf (now (words .entry)) size windows ⌝ }
 {
-    legal(settings(words)) & (size <= MOST_MEMORY) & (windows <= MOST_WINDOWS) & moves(words)
+    legal(settings(words))
+        & (size <= MOST_MEMORY)
+        & (windows <= MOST_WINDOWS)
+        & moves(words)
+        & (words[20] == 0)
+        & (words[21] == 0)
 }
 
-// The burst of a step that changes no word but the last, or nothing done.
-pub fn move_on_words(words: &mut [u32; 20], memory: &mut [u8], windows: &[u32]) -> MovedOn
+// The burst of a step that changes no word but word 19, or nothing done.
+pub fn move_on_words(words: &mut [u32; 22], memory: &mut [u8], windows: &[u32]) -> MovedOn
     ensures { λ r. ⌜ MovesWords (now (words .entry)) (now (memory .entry)) (now (windows .entry)) r (now (words .exit)) (now (memory .exit)) ⌝ }
 {
     if !goes_on(words, memory.len(), windows.len() / 2) {

@@ -45,3 +45,7 @@ both-join {t} {u} e f = subst (λ (b : Bool). both b u ≡ true) (sym e) f
 pub either-right : (t : Bool) {u : Bool} → true ≡ u → true ≡ either t u
 either-right true e = refl
 either-right false e = e
+
+pub neither : (t u : Bool) → either t u ≡ false → (t ≡ false) × (u ≡ false)
+neither true u e = absurd (never (sym e))
+neither false u e = (refl, e)

@@ -9,7 +9,7 @@ use lib.Dec.{eqb, leb}
 use borrow.Author.Tests.{eqb-true, eqb-false, leb-false}
 use Rattle.kit.specs.Choice.{either}
 use Rattle.kit.specs.Limits.{mostWindows}
-use Rattle.kit.proofs.Choice.{never}
+use Rattle.kit.proofs.Choice.{never, neither}
 use Rattle.memory.specs.Windows.{windowsOf}
 use Rattle.state.specs.declared.engine.Engine.{Engine}
 use Rattle.state.specs.declared.engine.Phase.{Phase}
@@ -38,10 +38,6 @@ use Rattle.session.proofs.Passing.{Passing, passing-begin, passing-turn, takes-
 use Rattle.session.proofs.StepLines.{stepping, stop-turn, step-turn, accepted-on}
 
 -- an ST that goes on: each test failed
-neither : (t u : Bool) → either t u ≡ false → (t ≡ false) × (u ≡ false)
-neither true u e = absurd (never (sym e))
-neither false u e = (refl, e)
-
 pub record Goes (left taken : ℕ) (accepted : Bool) : Type 0 where
   pub some : 0 < left
   pub fewer : taken < mostSteps

@@ -1,2 +1,4 @@
 pub mod Gliding
+pub mod GoodSides
+pub mod Incrementing
 pub mod Moved

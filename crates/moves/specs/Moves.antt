@@ -1,10 +1,11 @@
 -- RULES.md, "Descriptor and steps", move: what bursts of a transfer, moved on their own, are to an engine in its midst.
 use mathlib.Core.Path.{_≡_}
 use Prim.Native.Nat.{ℕ, _+_, min}
-use mathlib.Core.Bool.{true}
+use mathlib.Core.Bool.{Bool, true, false}
 use mathlib.Core.List.{List}
-use lib.Dec.{eqb}
+use lib.Dec.{eqb, ltb}
 use Rattle.kit.specs.Choice.{when}
+use Rattle.kit.specs.Limits.{mostBytes}
 use Rattle.kit.specs.declared.settings.Settings.{Settings}
 use Rattle.memory.specs.declared.window.Window.{Window}
 use Rattle.memory.specs.Good.{goodBytes}
@@ -23,21 +24,28 @@ use Rattle.moves.specs.declared.move_on.MovedOn.the-variants.{Moved, Not
 abbrev pub movedTo : Transfer → ℕ → Transfer
 movedTo t moved = record { source = t .source; destination = t .destination; total = t .total; moved = moved }
 
--- an engine with these settings, in the midst of this transfer
-pub record Moving (settings : Settings) (t : Transfer) (s : Engine) : Type 0 where
+-- an engine with these settings, these key hole bits, and in the midst of this transfer
+pub record Moving (settings : Settings) (reads writes : Bool) (t : Transfer) (s : Engine) : Type 0 where
   pub set : s .settings ≡ settings
+  pub source : s .control .keyholeread ≡ reads
+  pub destination : s .control .keyholewrite ≡ writes
   pub phase : s .phase ≡ Move t
 
--- a burst: the step of every such engine moves it, and leaves the engine as it was but for the bytes moved. Nothing: the memory is as it was
+-- a burst: the step of every such engine whose sides both increment moves it, and leaves the engine as it was but for the bytes moved. Nothing: the memory is as it was
 abbrev pub MovesOn : Settings → Transfer → List Window → List ℕ → MovedOn → List ℕ → Type 0
 MovesOn settings t windows m (Moved b) after =
-    (s : Engine) → Moving settings t s
+    (s : Engine) → Moving settings false false t s
     → advanceOf s m windows ≡ record { event = MoveEvent b; engine = withPhase s (Move (movedTo t (t .moved + b .bytes))); memory = after }
 MovesOn settings t windows m Nothing after = after ≡ m
 
--- the bytes that are good both where the transfer's next burst is read and where it is written
+-- the bytes that are good both where the transfer's next burst is read and where it is written, if both sides increment
 abbrev pub goodAhead : ℕ → List Window → Transfer → ℕ
 goodAhead size windows t = min (goodBytes size windows (readsAt t)) (goodBytes size windows (writesAt t))
+
+-- the bytes from byte k on that are known to be good on a side: on a fixed one any number, if all of its word is good
+abbrev pub goodSide : ℕ → List Window → ℕ → Bool → ℕ → ℕ → ℕ
+goodSide size windows w fixed start k =
+    when fixed (when (ltb (goodBytes size windows start) w) 0 mostBytes) (goodBytes size windows (start + k))
 
 -- n steps of a busy engine lead from r to a state
 pub data Reaches (windows : List Window) (r : AfterAdvance) : ℕ → AfterAdvance → Type 0 where
@@ -50,6 +58,6 @@ abbrev pub afterBursts : Engine → Event → Transfer → Glided → List ℕ �
 afterBursts s e t r m = record { event = when (eqb (r .steps) 0) e (MoveEvent (r .last)); engine = continueOrFinishOf s t (r .moved); memory = m }
 
 -- the bursts are steps of every such engine
-abbrev pub Glides : Settings → Transfer → List Window → List ℕ → Glided → List ℕ → Type 0
-Glides settings t windows m r after =
-    (s : Engine) (e : Event) → Moving settings t s → Reaches windows (record { event = e; engine = s; memory = m }) (r .steps) (afterBursts s e t r after)
+abbrev pub Glides : Settings → Bool → Bool → Transfer → List Window → List ℕ → Glided → List ℕ → Type 0
+Glides settings reads writes t windows m r after =
+    (s : Engine) (e : Event) → Moving settings reads writes t s → Reaches windows (record { event = e; engine = s; memory = m }) (r .steps) (afterBursts s e t r after)

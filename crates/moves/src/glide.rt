@@ -1,7 +1,8 @@
-// Bursts of a transfer, one after the other, while they do not fail. The loop carries the transfer alone, and how far memory
+// Bursts of a transfer whose sides both increment, one after the other, while they do not fail. The loop carries the transfer alone, and how far memory
 // is good is asked once, as a burst changes bytes and not how they answer.
 use cut::Burst;
 use cut::bytes_within;
+use cut::least;
 use cut::span;
 use cut::words_left;
 use kit::settings::Settings;
@@ -9,8 +10,8 @@ use memory::burst::copy;
 use memory::good::good_bytes;
 use state::engine::Transfer;
 ghost use mathlib.Core.Path.{_≡_};
-ghost use mathlib.Core.Bool.{true};
-ghost use Prim.Native.Nat.{_≤_, min};
+ghost use mathlib.Core.Bool.{true, false};
+ghost use Prim.Native.Nat.{_≤_};
 ghost use lib.ListN.{length};
 ghost use Rattle.kit.specs.Limits.{mostMemory};
 ghost use Rattle.kit.specs.Settings.{legalOf};
@@ -23,12 +24,6 @@ pub struct Glided {
     pub moved: u32,
     pub last: Burst,
     pub steps: u32,
-}
-
-fn least(a: u64, b: u64) -> u64
-    ensures { λ r. ⌜ r ≡ min a b ⌝ }
-{
-    if a < b { a } else { b }
 }
 
 // The bytes that are good from where the transfer's next burst is read and from where it is written.
@@ -55,7 +50,7 @@ pub fn glide(
     requires { ⌜ legalOf settings ≡ true ⌝ }
     requires { ⌜ transferFits transfer ≡ true ⌝ }
     requires { ⌜ length (now memory) ≤ mostMemory ⌝ }
-    ensures { λ r. ⌜ Glides settings transfer (windowsOf (now (windows .entry))) (now (memory .entry)) r (now (memory .exit)) ⌝ }
+    ensures { λ r. ⌜ Glides settings false false transfer (windowsOf (now (windows .entry))) (now (memory .entry)) r (now (memory .exit)) ⌝ }
     ensures { λ r. ⌜ r .steps ≤ most ⌝ }
 {
     let mut moved = transfer.moved;

@@ -1,4 +1,4 @@
-// One burst that neither fails nor ends its transfer: after it only the bytes moved differ.
+// One burst of a transfer whose sides both increment, that neither fails nor ends it: after it only the bytes moved differ.
 use cut::Burst;
 use cut::burst_bytes;
 use kit::settings::Settings;

@@ -12,16 +12,19 @@ use Rattle.state.specs.declared.engine.Phase.{Phase}
 use Rattle.state.specs.declared.engine.Engine.{Engine}
 use Rattle.reads.specs.declared.read.Reading.{Reading}
 use Rattle.state.specs.State.{busyOf, errorSetOf, wellFormedOf}
-use Rattle.state.specs.Bits.{tailPntrEn, sgMode, iocIrqEn, errIrqEn, irqThreshold, idle, sgIncld, iocIrq, errIrq, irqThresholdSts, errorBitOf}
+use Rattle.state.specs.Bits.{tailPntrEn, sgMode, keyHoleRead, keyHoleWrite, iocIrqEn, errIrqEn, irqThreshold, idle, sgIncld, iocIrq, errIrq, irqThresholdSts, errorBitOf}
 
 -- a bit's value where it is set
 abbrev pub bitIf : Bool → ℕ → ℕ
 bitIf set value = when set value 0
 
--- CDMACR: bit 1 and bits 23..16 read 1, each as a field; bits 3, 12 and 14 are kept
+-- CDMACR: bit 1 and bits 23..16 read 1, each as a field; bits 3, 4, 5, 12 and 14 are kept
 abbrev pub controlOf : Control → ℕ
 controlOf c =
-    2 ^ irqThreshold + 2 ^ tailPntrEn + bitIf (c .sgmode) (2 ^ sgMode) + bitIf (c .iocen) (2 ^ iocIrqEn) + bitIf (c .erren) (2 ^ errIrqEn)
+    2 ^ irqThreshold + 2 ^ tailPntrEn + bitIf (c .sgmode) (2 ^ sgMode) + bitIf (c .keyholeread) (2 ^ keyHoleRead)
+    + bitIf (c .keyholewrite) (2 ^ keyHoleWrite)
+    + bitIf (c .iocen) (2 ^ iocIrqEn)
+    + bitIf (c .erren) (2 ^ errIrqEn)
 
 -- CDMASR: bit 3 and bits 23..16 read 1; bit 1 Idle, the error bits, 12 IOC_Irq, 14 Err_Irq
 abbrev pub statusOf : Status → Phase → ℕ

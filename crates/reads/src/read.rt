@@ -8,6 +8,8 @@ use state::bits::IOC_IRQ;
 use state::bits::IOC_IRQ_EN;
 use state::bits::IRQ_THRESHOLD;
 use state::bits::IRQ_THRESHOLD_STS;
+use state::bits::KEY_HOLE_READ;
+use state::bits::KEY_HOLE_WRITE;
 use state::bits::SG_INCLD;
 use state::bits::SG_MODE;
 use state::bits::TAIL_PNTR_EN;
@@ -43,6 +45,8 @@ fn read_control(control: Control) -> u32
     bit_if(true, IRQ_THRESHOLD)
         + bit_if(true, TAIL_PNTR_EN)
         + bit_if(control.sgmode, SG_MODE)
+        + bit_if(control.keyholeread, KEY_HOLE_READ)
+        + bit_if(control.keyholewrite, KEY_HOLE_WRITE)
         + bit_if(control.iocen, IOC_IRQ_EN)
         + bit_if(control.erren, ERR_IRQ_EN)
 }

@@ -9,25 +9,22 @@ use borrow.Author.Tests.{not-false, eqb-true, le-leb, leb-true}
 use Rattle.kit.specs.Choice.{both, either}
 use Rattle.kit.specs.Limits.{mostBytes}
 use Rattle.kit.specs.Settings.{among, legalOf}
-use Rattle.kit.proofs.Choice.{cases, never}
+use Rattle.kit.proofs.Choice.{cases, never, neither}
 use Rattle.state.specs.declared.descriptor.Start.{Start}
 use Rattle.state.specs.declared.descriptor.Start.the-variants.{Moves, Internal}
+use Rattle.state.specs.declared.engine.Control.{Control}
 use Rattle.state.specs.declared.engine.Engine.{Engine}
 use Rattle.state.specs.declared.engine.Phase.{Phase}
 use Rattle.state.specs.declared.engine.Phase.the-variants.{Idle, Fetch, Move, Update}
 use Rattle.state.specs.State.{busyOf, errorSetOf, phaseFits, wellFormedOf, withBtt}
-use Rattle.state.specs.Bits.{bit, pointer, reset, sgMode, alignment}
+use Rattle.state.specs.Bits.{bit, pointer, reset, alignment}
 use Rattle.state.specs.Descriptor.{countOf, startOf}
 use Rattle.state.proofs.Start.{start-fits}
 use Rattle.state.proofs.WellFormed.{WellFormed, Parts, well-formed, parts, joined, aligned-test, not-both, fresh-well-formed}
 use Rattle.reads.specs.Read.{upperHalves}
-use Rattle.registers.specs.Write.{AfterWrite, differ, guardOf, writeControlOf, writeTailOf, startedOf, writeCountOf, registerWrittenOf, writeOf}
+use Rattle.registers.specs.Write.{AfterWrite, differ, controlFrom, modeDiffers, guardOf, writeControlOf, writeTailOf, startedOf, writeCountOf, registerWrittenOf, writeOf}
 use Rattle.registers.specs.Changes.{Free, Change, resets, controls, clears, points, extends, fetches, sources, destinations, moves, fails, nothing, Write, refused, changed}
 use Rattle.registers.specs.Claims.{Words}
-
-pub neither : (t u : Bool) → either t u ≡ false → (t ≡ false) × (u ≡ false)
-neither true u e = absurd (never (sym e))
-neither false u e = (refl, e)
 
 -- ---- the view
 
@@ -47,7 +44,7 @@ module _ (s : Engine) (offset v : ℕ) where
   control : offset ≡ 0x00 → W (writeControlOf s v)
   control o =
       cases W (bit reset v) (λ e. changed (resets o e))
-      (λ e. cases W (both (busyOf (s .phase)) (differ (bit sgMode v) (s .control .sgmode))) (λ _. refused 4 (omega arith)) (λ b. changed (controls o e b)))
+      (λ e. cases W (both (busyOf (s .phase)) (modeDiffers (controlFrom v) (s .control))) (λ _. refused 4 (omega arith)) (λ b. changed (controls o e b)))
 
   tail : offset ≡ 0x10 → W (writeTailOf s v)
   tail o =
@@ -55,7 +52,7 @@ module _ (s : Engine) (offset v : ℕ) where
       (λ e m. cases (Change s offset v) (busyOf (s .phase)) (extends o (not-false _ m) e)
       (λ b. fetches o (not-false _ m) (record { no-error = e; idle = b })))
 
-  started : offset ≡ 0x28 → s .control .sgmode ≡ false → Free s → (x : Start) → startOf (s .simple .sa) (s .simple .da) (countOf v) ≡ x
+  started : offset ≡ 0x28 → s .control .sgmode ≡ false → Free s → (x : Start) → startOf (s .settings .width) (s .control) (s .simple .sa) (s .simple .da) (countOf v) ≡ x
       → Change s offset v (startedOf (withBtt s (countOf v)) x)
   started o m f (Moves t) e = moves o m f t e
   started o m f Internal e = fails o m f e
@@ -64,7 +61,7 @@ module _ (s : Engine) (offset v : ℕ) where
   count o =
       guard (either (busyOf (s .phase)) (s .control .sgmode)) _
       (λ e n. let (b, m) = neither (busyOf (s .phase)) (s .control .sgmode) n in
-      started o m (record { no-error = e; idle = b }) (startOf (s .simple .sa) (s .simple .da) (countOf v)) refl)
+      started o m (record { no-error = e; idle = b }) (startOf (s .settings .width) (s .control) (s .simple .sa) (s .simple .da) (countOf v)) refl)
 
   registered : W (registerWrittenOf s offset v)
   unfolding registerWrittenOf
@@ -134,13 +131,18 @@ write-keeps-words s offset v h w = go (writes s offset v)
     go (changed c) = words-stay h w c
 
 -- a mode that stays as it is while busy still fits the phase
-mode-fits : (p : Phase) (new old : Bool) → both (busyOf p) (differ new old) ≡ false → phaseFits p old ≡ true → phaseFits p new ≡ true
+same-mode : (new old : Control) → modeDiffers new old ≡ false → old .sgmode ≡ true → new .sgmode ≡ true
+same-mode new old d e = go (new .sgmode) (neither (differ (new .sgmode) (old .sgmode)) (either (differ (new .keyholeread) (old .keyholeread)) (differ (new .keyholewrite) (old .keyholewrite))) d .0)
+  where
+    go : (chain : Bool) → differ chain (old .sgmode) ≡ false → chain ≡ true
+    go true f = refl
+    go false f = sym f ∙ e
+
+mode-fits : (p : Phase) (new old : Control) → both (busyOf p) (modeDiffers new old) ≡ false → phaseFits p (old .sgmode) ≡ true → phaseFits p (new .sgmode) ≡ true
 mode-fits Idle new old d f = refl
-mode-fits Fetch true old d f = refl
-mode-fits Fetch false old d f = sym d ∙ f
+mode-fits Fetch new old d f = same-mode new old d f
 mode-fits (Move t) new old d f = f
-mode-fits (Update o) true old d f = refl
-mode-fits (Update o) false old d f = sym d ∙ f
+mode-fits (Update o) new old d f = same-mode new old d f
 
 module _ (s : Engine) (offset v : ℕ) (w : Words s) (e : wellFormedOf s ≡ true) where
   h : WellFormed s
@@ -162,7 +164,7 @@ module _ (s : Engine) (offset v : ℕ) (w : Words s) (e : wellFormedOf s ≡ tru
   parts-stay : {t : Engine} → Change s offset v t → Parts t
   parts-stay (resets _ _) = parts _ (fresh-well-formed (s .settings))
   parts-stay (controls _ _ d) =
-      record { pointers = p .pointers; count = p .count; error = p .error; phase = mode-fits (s .phase) (bit sgMode v) (s .control .sgmode) d (p .phase) }
+      record { pointers = p .pointers; count = p .count; error = p .error; phase = mode-fits (s .phase) (controlFrom v) (s .control) d (p .phase) }
   parts-stay (clears _) = record { pointers = p .pointers; count = p .count; error = p .error; phase = p .phase }
   parts-stay (points _ _) = record {
     pointers = aligned-test (pointer v) (s .pointers .tail) (pointer v) (s .pointers .heldnext) at (h .tail-aligned) at (h .held-aligned);
@@ -188,7 +190,7 @@ module _ (s : Engine) (offset v : ℕ) (w : Words s) (e : wellFormedOf s ≡ tru
     pointers = p .pointers;
     count = kept;
     error = no-error (f .no-error);
-    phase = start-fits (s .simple .sa) (s .simple .da) (countOf v) t x (w .source-word) (w .destination-word) (leb-true _ _ kept);
+    phase = start-fits (s .settings .width) (s .control) (s .simple .sa) (s .simple .da) (countOf v) t x (w .source-word) (w .destination-word) (leb-true _ _ kept);
   }
   parts-stay (fails _ _ f _) =
       record { pointers = p .pointers; count = kept; error = not-both true (busyOf (s .phase)) (λ _. f .idle); phase = p .phase }

@@ -18,7 +18,7 @@ use Rattle.state.specs.declared.engine.Phase.{Phase}
 use Rattle.state.specs.declared.engine.Phase.the-variants.{Fetch, Move}
 use Rattle.registers.specs.declared.write.Written.{Written}
 use Rattle.state.specs.State.{freshOf, busyOf, errorSetOf, wellFormedOf, withControl, withStatus, withCurrent, withTail, withNext, withSa, withDa, withBtt, withPhase}
-use Rattle.state.specs.Bits.{bit, pointer, reset, sgMode, iocIrqEn, errIrqEn, iocIrq, errIrq}
+use Rattle.state.specs.Bits.{bit, pointer, reset, sgMode, keyHoleRead, keyHoleWrite, iocIrqEn, errIrqEn, iocIrq, errIrq}
 use Rattle.state.specs.Descriptor.{countOf, startOf}
 use Rattle.reads.specs.Read.{upperHalves}
 
@@ -46,14 +46,26 @@ differ a b = when a (not b) b
 abbrev pub guardOf : Engine → Bool → Engine → AfterWrite
 guardOf s barred next = when (errorSetOf (s .status .fault)) (ignored 5 s) (when barred (ignored 4 s) (done next))
 
--- CDMACR: bit 2 resets to a fresh state with the same settings; a change of SGMode while busy: 4
+-- CDMACR's kept bits in a value
 abbrev pub controlFrom : ℕ → Control
-controlFrom v = record { sgmode = bit sgMode v; iocen = bit iocIrqEn v; erren = bit errIrqEn v }
+controlFrom v = record {
+  sgmode = bit sgMode v;
+  keyholeread = bit keyHoleRead v;
+  keyholewrite = bit keyHoleWrite v;
+  iocen = bit iocIrqEn v;
+  erren = bit errIrqEn v;
+}
 
+-- one of those that an engine keeps while busy differs: SGMode and the key hole bits
+abbrev pub modeDiffers : Control → Control → Bool
+modeDiffers c d =
+    either (differ (c .sgmode) (d .sgmode)) (either (differ (c .keyholeread) (d .keyholeread)) (differ (c .keyholewrite) (d .keyholewrite)))
+
+-- CDMACR: bit 2 resets to a fresh state with the same settings; a change of SGMode or a key hole bit while busy: 4
 abbrev pub writeControlOf : Engine → ℕ → AfterWrite
 writeControlOf s v =
     when (bit reset v) (done (freshOf (s .settings)))
-    (when (both (busyOf (s .phase)) (differ (bit sgMode v) (s .control .sgmode))) (ignored 4 s) (done (withControl s (controlFrom v))))
+    (when (both (busyOf (s .phase)) (modeDiffers (controlFrom v) (s .control))) (ignored 4 s) (done (withControl s (controlFrom v))))
 
 -- CDMASR: writing 1 clears bits 12 and 14
 abbrev pub clearedOf : Status → ℕ → Status
@@ -99,7 +111,7 @@ startedOf s start = withPhase (withStatus s (startedStatus start (s .status))) (
 abbrev pub writeCountOf : Engine → ℕ → AfterWrite
 writeCountOf s v =
     guardOf s (either (busyOf (s .phase)) (s .control .sgmode))
-    (startedOf (withBtt s (countOf v)) (startOf (s .simple .sa) (s .simple .da) (countOf v)))
+    (startedOf (withBtt s (countOf v)) (startOf (s .settings .width) (s .control) (s .simple .sa) (s .simple .da) (countOf v)))
 
 -- each register's rule; upper halves: written without effect; any other offset: 3
 unfoldable pub registerWrittenOf : Engine → ℕ → ℕ → AfterWrite

@@ -9,6 +9,8 @@ use state::bits::ERR_IRQ;
 use state::bits::ERR_IRQ_EN;
 use state::bits::IOC_IRQ;
 use state::bits::IOC_IRQ_EN;
+use state::bits::KEY_HOLE_READ;
+use state::bits::KEY_HOLE_WRITE;
 use state::bits::RESET;
 use state::bits::SG_MODE;
 use state::bits::bit;
@@ -30,12 +32,13 @@ use state::engine::fresh;
 use state::engine::well_formed;
 ghost use mathlib.Core.Path.{_≡_};
 ghost use mathlib.Core.Bool.{not};
+ghost use Prim.Native.Nat.{_<_};
 ghost use Rattle.kit.specs.Answer.{numberOf};
 ghost use Rattle.kit.specs.Choice.{when, both as bothOf};
 ghost use Rattle.state.specs.declared.descriptor.Start.the-variants.{Internal};
 ghost use Rattle.state.specs.declared.engine.Phase.the-variants.{Fetch, Move};
 ghost use Rattle.state.specs.State.{errorSetOf};
-ghost use Rattle.registers.specs.Write.{done as doneOf, ignored as ignoredOf, differ as differOf, builtOf, controlFrom, clearedOf, startedPhase, startedStatus, writeControlOf, writeStatusOf, writeCurrentOf, writeTailOf, writeSourceOf, writeDestinationOf, writeCountOf, registerWrittenOf, writeOf, writeSeen};
+ghost use Rattle.registers.specs.Write.{done as doneOf, ignored as ignoredOf, differ as differOf, builtOf, controlFrom, modeDiffers, clearedOf, startedPhase, startedStatus, writeControlOf, writeStatusOf, writeCurrentOf, writeTailOf, writeSourceOf, writeDestinationOf, writeCountOf, registerWrittenOf, writeOf, writeSeen};
 
 // The answer, and the state after the write.
 pub struct Written {
@@ -137,9 +140,24 @@ fn control_bits(value: u32) -> Control
 {
     Control {
         sgmode: bit(value, SG_MODE),
+        keyholeread: bit(value, KEY_HOLE_READ),
+        keyholewrite: bit(value, KEY_HOLE_WRITE),
         iocen: bit(value, IOC_IRQ_EN),
         erren: bit(value, ERR_IRQ_EN),
     }
+}
+
+// SGMode or a key hole bit differs: a busy engine keeps them.
+fn mode_differs(new: Control, old: Control) -> bool
+    ensures { λ r. ⌜ r ≡ modeDiffers new old ⌝ }
+{
+    either(
+        differ(new.sgmode, old.sgmode),
+        either(
+            differ(new.keyholeread, old.keyholeread),
+            differ(new.keyholewrite, old.keyholewrite),
+        ),
+    )
 }
 
 fn write_control(engine: Engine, value: u32) -> Written
@@ -150,7 +168,7 @@ fn write_control(engine: Engine, value: u32) -> Written
     }
     let control = control_bits(value);
     let phase = engine.phase;
-    if both(busy(phase), differ(control.sgmode, engine.control.sgmode)) {
+    if both(busy(phase), mode_differs(control, engine.control)) {
         return ignored(Answer::Busy, engine);
     }
     let status = engine.status;
@@ -335,6 +353,7 @@ fn start_status(allowed: bool, start: Start, status: Status) -> Status
 }
 
 fn write_count(engine: Engine, value: u32) -> Written
+    requires { ⌜ 0 < engine .settings .width ⌝ }
     ensures { λ r. ⌜ writeSeen r ≡ writeCountOf engine value ⌝ }
 {
     let status = engine.status;
@@ -343,7 +362,13 @@ fn write_count(engine: Engine, value: u32) -> Written
     let allowed = allows(status, barred);
     let simple = engine.simple;
     let total = count(value);
-    let start = start_transfer(simple.sa, simple.da, total);
+    let start = start_transfer(
+        engine.settings.width,
+        engine.control,
+        simple.sa,
+        simple.da,
+        total,
+    );
     build(
         gate(status, barred),
         engine.settings,
@@ -360,6 +385,7 @@ fn write_count(engine: Engine, value: u32) -> Written
 
 // One arm a register, in PG034's order.
 fn write_register(engine: Engine, offset: u32, value: u32) -> Written
+    requires { ⌜ 0 < engine .settings .width ⌝ }
     ensures { λ r. ⌜ writeSeen r ≡ registerWrittenOf engine offset value ⌝ }
 {
     match offset {

@@ -1,8 +1,12 @@
 // Some steps of a well-formed engine, one after the other.
 use cut::Burst;
 use cut::span;
+use kit::logic::either;
 use kit::settings::Settings;
+use moves::fixed::glide_fixed;
+use moves::glide::Glided;
 use moves::glide::glide;
+use state::engine::Control;
 use state::engine::Engine;
 use state::engine::Phase;
 use state::engine::Transfer;
@@ -24,7 +28,7 @@ ghost use Rattle.state.specs.declared.engine.Phase.the-variants.{Move};
 ghost use Rattle.state.specs.State.{busyOf, transferFits, wellFormedOf};
 ghost use Rattle.steps.specs.declared.event.Event.the-variants.{None, Move as Moved};
 ghost use Rattle.steps.specs.Step.{begun};
-ghost use Rattle.moves.specs.Moves.{Reaches};
+ghost use Rattle.moves.specs.Moves.{Reaches, Glides};
 ghost use Rattle.runs.specs.Run.{walkFrom, walkSeen, standsAt};
 
 // The last event of some steps, their number, and the state after them.
@@ -34,7 +38,7 @@ pub struct Walked {
     pub engine: Engine,
 }
 
-// The transfer has more than one burst to go, so that asking how far memory is good pays.
+// More bytes are to go than a burst can have, so asking how far memory is good pays.
 fn long(settings: Settings, transfer: Transfer) -> bool
     requires { ⌜ transferFits transfer ≡ true ⌝ }
 {
@@ -52,7 +56,30 @@ fn event_of(steps: u32, last: Burst) -> Event
     }
 }
 
-// As many bursts as are good, or none.
+// As many bursts as are good, or none, whichever sides are fixed.
+fn good_bursts(
+    control: Control,
+    settings: Settings,
+    transfer: Transfer,
+    memory: &mut [u8],
+    windows: &[u32],
+    most: u32,
+) -> Glided
+    requires { ⌜ legalOf settings ≡ true ⌝ }
+    requires { ⌜ transferFits transfer ≡ true ⌝ }
+    requires { ⌜ length (now memory) ≤ mostMemory ⌝ }
+    ensures { λ r. ⌜ Glides settings (control .keyholeread) (control .keyholewrite) transfer (windowsOf (now (windows .entry))) (now (memory .entry)) r (now (memory .exit)) ⌝ }
+    ensures { λ r. ⌜ r .steps ≤ most ⌝ }
+{
+    let reads = control.keyholeread;
+    let writes = control.keyholewrite;
+    if either(reads, writes) {
+        return glide_fixed(settings, reads, writes, transfer, memory, windows, most);
+    }
+    glide(settings, transfer, memory, windows, most)
+}
+
+// The engine after them.
 fn glide_on(
     engine: Engine,
     transfer: Transfer,
@@ -67,7 +94,14 @@ fn glide_on(
     ensures { λ r. ⌜ Reaches (windowsOf (now (windows .entry))) (begun engine (now (memory .entry))) (r .steps) (standsAt r (now (memory .exit))) ⌝ }
     ensures { λ r. ⌜ r .steps ≤ most ⌝ }
 {
-    let glided = glide(engine.settings, transfer, memory, windows, most);
+    let glided = good_bursts(
+        engine.control,
+        engine.settings,
+        transfer,
+        memory,
+        windows,
+        most,
+    );
     let last = glided.last;
     Walked {
         event: event_of(glided.steps, last),

@@ -23,7 +23,7 @@ use Rattle.state.specs.State.{errorSetOf, busyOf, aligned, transferFits, phaseF
 use Rattle.state.specs.Bits.{errorBitOf}
 use Rattle.state.proofs.WellFormed.{joined, parts, not-both}
 use Rattle.words.specs.EngineWords.{word, truth, phaseNumberOf, none, movingOf, wordsOf, errorBitFrom, phaseFrom, pointersFrom, transferFrom, engineFrom, sameWords}
-use Rattle.spelling.specs.Spelling.{twentyOf, truthsOf, bitListedOf, phaseListedOf, stillOf, spelledOf, alignedOf, insideOf, fitsOf, phaseSoundOf, soundOf}
+use Rattle.spelling.specs.Spelling.{wholeOf, truthsOf, bitListedOf, phaseListedOf, stillOf, spelledOf, alignedOf, insideOf, fitsOf, phaseSoundOf, soundOf}
 use Rattle.words.proofs.Same.{same-equal, same-itself}
 
 -- ---- tests joined
@@ -129,29 +129,42 @@ transfer-kept w n l e = go (decide (eqb n 2))
 
 -- what is tested, by name
 record Tested (w : List ℕ) : Type 0 where
-  twenty : length w ≡ 20
+  whole : length w ≡ 22
   sgmode : ltb (word w 2) 2 ≡ true
   iocen : ltb (word w 3) 2 ≡ true
   erren : ltb (word w 4) 2 ≡ true
   ioc : ltb (word w 6) 2 ≡ true
   err : ltb (word w 7) 2 ≡ true
+  keyholeread : ltb (word w 20) 2 ≡ true
+  keyholewrite : ltb (word w 21) 2 ≡ true
 
-tested : (w : List ℕ) → (twentyOf w && truthsOf w) ≡ true → Tested w
+tested : (w : List ℕ) → (wholeOf w && truthsOf w) ≡ true → Tested w
 tested w e =
-    let truths = apart (twentyOf w) (truthsOf w) e in
-    let t7 = apart _ (ltb (word w 7) 2) (truths .1) in
+    let truths = apart (wholeOf w) (truthsOf w) e in
+    let t21 = apart _ (ltb (word w 21) 2) (truths .1) in
+    let t20 = apart _ (ltb (word w 20) 2) (t21 .0) in
+    let t7 = apart _ (ltb (word w 7) 2) (t20 .0) in
     let t6 = apart _ (ltb (word w 6) 2) (t7 .0) in
     let t4 = apart _ (ltb (word w 4) 2) (t6 .0) in
     let t3 = apart (ltb (word w 2) 2) (ltb (word w 3) 2) (t4 .0) in
-    record { twenty = eqb-true (length w) 20 (truths .0); sgmode = t3 .0; iocen = t3 .1; erren = t4 .1; ioc = t6 .1; err = t7 .1 }
+    record {
+      whole = eqb-true (length w) 22 (truths .0);
+      sgmode = t3 .0;
+      iocen = t3 .1;
+      erren = t4 .1;
+      ioc = t6 .1;
+      err = t7 .1;
+      keyholeread = t20 .1;
+      keyholewrite = t21 .1;
+    }
 
 -- words that are spelled are those of the engine that they spell
 pub kept : (w : List ℕ) → spelledOf w ≡ true → wordsOf (engineFrom w) ≡ w
 unfolding listed
 kept w e =
-    let rest = apart (twentyOf w && truthsOf w && bitListedOf (word w 5) && phaseListedOf (word w 15)) (eqb (word w 15) 2 || stillOf w) e in
-    let phase = apart (twentyOf w && truthsOf w && bitListedOf (word w 5)) (phaseListedOf (word w 15)) (rest .0) in
-    let bit = apart (twentyOf w && truthsOf w) (bitListedOf (word w 5)) (phase .0) in
+    let rest = apart (wholeOf w && truthsOf w && bitListedOf (word w 5) && phaseListedOf (word w 15)) (eqb (word w 15) 2 || stillOf w) e in
+    let phase = apart (wholeOf w && truthsOf w && bitListedOf (word w 5)) (phaseListedOf (word w 15)) (rest .0) in
+    let bit = apart (wholeOf w && truthsOf w) (bitListedOf (word w 5)) (phase .0) in
     let tests = tested w (bit .0) in
     let number = phase-kept (word w 15) (transferFrom w) (phase .1) in
     let transfer = transfer-kept w (word w 15) (phase .1) (rest .1) in
@@ -161,8 +174,9 @@ kept w e =
     ∷ bit-kept (word w 5) (bit .1) i ∷ truth-kept (word w 6) (tests .ioc) i ∷ truth-kept (word w 7) (tests .err) i
     ∷ word w 8 ∷ word w 9 ∷ word w 10 ∷ word w 11 ∷ word w 12 ∷ word w 13 ∷ word w 14
     ∷ number i ∷ transfer i .source ∷ transfer i .destination ∷ transfer i .total ∷ transfer i .moved
+    ∷ truth-kept (word w 20) (tests .keyholeread) i ∷ truth-kept (word w 21) (tests .keyholewrite) i
     ∷ [])
-    ∙ sym (listed-drop w 20 0 (sym (tests .twenty)))
+    ∙ sym (listed-drop w 22 0 (sym (tests .whole)))
 
 truth-small : (b : Bool) → ltb (truth b) 2 ≡ true
 truth-small true = refl
@@ -189,7 +203,8 @@ phase-spelled s (Update Decode) = (refl, refl)
 
 truths-spelled : (s : Engine) → truthsOf (wordsOf s) ≡ true
 truths-spelled s =
-    join (join (join (join (truth-small (s .control .sgmode)) (truth-small (s .control .iocen))) (truth-small (s .control .erren))) (truth-small (s .status .ioc))) (truth-small (s .status .err))
+    join (join (join (join (join (join (truth-small (s .control .sgmode)) (truth-small (s .control .iocen))) (truth-small (s .control .erren))) (truth-small (s .status .ioc))) (truth-small (s .status .err)))
+    (truth-small (s .control .keyholeread))) (truth-small (s .control .keyholewrite))
 
 -- an engine's words are spelled
 spelled-words : (s : Engine) → spelledOf (wordsOf s) ≡ true
@@ -291,9 +306,9 @@ module _ (w : List ℕ) where
 -- words that are sound are spelled, and by a well-formed engine
 pub sound-spelled : (w : List ℕ) → soundOf w ≡ true → (spelledOf w ≡ true) × (wellFormedOf (engineFrom w) ≡ true)
 sound-spelled w e =
-    let all = apart (twentyOf w && truthsOf w && alignedOf w && leb (word w 14) mostBytes) (phaseSoundOf w) e in
-    let count = apart (twentyOf w && truthsOf w && alignedOf w) (leb (word w 14) mostBytes) (all .0) in
-    let pointers = apart (twentyOf w && truthsOf w) (alignedOf w) (count .0) in
+    let all = apart (wholeOf w && truthsOf w && alignedOf w && leb (word w 14) mostBytes) (phaseSoundOf w) e in
+    let count = apart (wholeOf w && truthsOf w && alignedOf w) (leb (word w 14) mostBytes) (all .0) in
+    let pointers = apart (wholeOf w && truthsOf w) (alignedOf w) (count .0) in
     let phase = phase-sound w (all .1) in (
       join (join (join (pointers .0) (phase .bit)) (phase .phase)) (phase .rest),
       joined (engineFrom w) (record {

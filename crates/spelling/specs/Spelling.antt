@@ -1,4 +1,4 @@
--- include/belikumba.h, "Engine": which 20 numbers are an engine's words, and which are those of a well-formed one.
+-- include/belikumba.h, "Engine": which numbers are an engine's words, and which are those of a well-formed one.
 use Prim.Native.Nat.{ℕ, _+_, _%_}
 use mathlib.Core.Bool.{Bool, _&&_, _||_}
 use mathlib.Core.List.{List}
@@ -8,12 +8,14 @@ use Rattle.kit.specs.Choice.{when}
 use Rattle.kit.specs.Limits.{mostBytes, addressEnd}
 use Rattle.words.specs.EngineWords.{word}
 
-abbrev pub twentyOf : List ℕ → Bool
-twentyOf w = eqb (length w) 20
+-- as many words as an engine has
+abbrev pub wholeOf : List ℕ → Bool
+wholeOf w = eqb (length w) 22
 
 -- what is a truth is 0 or 1
 abbrev pub truthsOf : List ℕ → Bool
-truthsOf w = ltb (word w 2) 2 && ltb (word w 3) 2 && ltb (word w 4) 2 && ltb (word w 6) 2 && ltb (word w 7) 2
+truthsOf w =
+    ltb (word w 2) 2 && ltb (word w 3) 2 && ltb (word w 4) 2 && ltb (word w 6) 2 && ltb (word w 7) 2 && ltb (word w 20) 2 && ltb (word w 21) 2
 
 -- an error bit's number, or 0 for none
 abbrev pub bitListedOf : ℕ → Bool
@@ -29,7 +31,7 @@ stillOf w = eqb (word w 16) 0 && eqb (word w 17) 0 && eqb (word w 18) 0 && eqb (
 
 -- an engine has these words
 abbrev pub spelledOf : List ℕ → Bool
-spelledOf w = twentyOf w && truthsOf w && bitListedOf (word w 5) && phaseListedOf (word w 15) && (eqb (word w 15) 2 || stillOf w)
+spelledOf w = wholeOf w && truthsOf w && bitListedOf (word w 5) && phaseListedOf (word w 15) && (eqb (word w 15) 2 || stillOf w)
 
 -- the pointers are multiples of 64
 abbrev pub alignedOf : List ℕ → Bool
@@ -53,7 +55,7 @@ phaseSoundOf w =
 
 -- a well-formed engine has these words
 abbrev pub soundOf : List ℕ → Bool
-soundOf w = twentyOf w && truthsOf w && alignedOf w && leb (word w 14) mostBytes && phaseSoundOf w
+soundOf w = wholeOf w && truthsOf w && alignedOf w && leb (word w 14) mostBytes && phaseSoundOf w
 
 -- no error bit is set, the byte count register fits, and the phase is a move
 abbrev pub settledOf : List ℕ → Bool
@@ -61,4 +63,4 @@ settledOf w = eqb (word w 5) 0 && leb (word w 14) mostBytes && eqb (word w 15) 2
 
 -- it is in the midst of a transfer
 abbrev pub movesOf : List ℕ → Bool
-movesOf w = twentyOf w && truthsOf w && alignedOf w && settledOf w && fitsOf w
+movesOf w = wholeOf w && truthsOf w && alignedOf w && settledOf w && fitsOf w

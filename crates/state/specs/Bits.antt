@@ -16,7 +16,7 @@ alignment = 64
 abbrev pub pointer : ℕ → ℕ
 pointer v = v / alignment * alignment
 
--- CDMACR: bit 1 and the field in bits 23..16 always read 1; bit 2 resets; bits 3, 12 and 14 are kept
+-- CDMACR: bit 1 and the field in bits 23..16 always read 1; bit 2 resets; bits 3, 4, 5, 12 and 14 are kept
 abbrev pub tailPntrEn : ℕ
 tailPntrEn = 1
 
@@ -25,6 +25,12 @@ reset = 2
 
 abbrev pub sgMode : ℕ
 sgMode = 3
+
+abbrev pub keyHoleRead : ℕ
+keyHoleRead = 4
+
+abbrev pub keyHoleWrite : ℕ
+keyHoleWrite = 5
 
 abbrev pub iocIrqEn : ℕ
 iocIrqEn = 12

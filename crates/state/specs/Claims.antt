@@ -5,6 +5,7 @@ use mathlib.Core.Bool.{true, false}
 use Rattle.kit.specs.Limits.{mostBytes, addressEnd}
 use Rattle.kit.specs.declared.settings.Settings.{Settings}
 use Rattle.state.specs.declared.descriptor.Start.the-variants.{Moves}
+use Rattle.state.specs.declared.engine.Control.{Control}
 use Rattle.state.specs.declared.engine.Transfer.{Transfer}
 use Rattle.state.specs.declared.engine.Engine.{Engine}
 use Rattle.state.specs.Bits.{alignment}
@@ -28,6 +29,12 @@ pub record WellFormed (s : Engine) : Type 0 where
   pub error-idle : errorSetOf (s .status .fault) ≡ true → busyOf (s .phase) ≡ false
   pub phase-fits : phaseFits (s .phase) (s .control .sgmode) ≡ true
 
+-- what holds of a transfer that starts
+pub record Suited (w : ℕ) (c : Control) (source destination count : ℕ) : Type 0 where
+  pub some : 0 < count
+  pub read : c .keyholeread ≡ true → (source % w ≡ 0) × (count % w ≡ 0)
+  pub write : c .keyholewrite ≡ true → (destination % w ≡ 0) × (count % w ≡ 0)
+
 pub record Claims : Type 0 where
   -- the tests say what the facts say
   pub transfer-fits : (t : Transfer) → transferFits t ≡ true → TransferFits t
@@ -36,5 +43,11 @@ pub record Claims : Type 0 where
   pub well-formed-test : (s : Engine) → WellFormed s → wellFormedOf s ≡ true
   -- a fresh state is well formed, and a transfer of 32-bit addresses and 23-bit count fits at its start
   pub fresh-well-formed : (x : Settings) → wellFormedOf (freshOf x) ≡ true
-  pub start-fits : (source destination count : ℕ) (t : Transfer) → startOf source destination count ≡ Moves t → source < addressEnd → destination < addressEnd
-      → count ≤ mostBytes → transferFits t ≡ true
+  pub start-fits : (w : ℕ) (c : Control) (source destination count : ℕ) (t : Transfer) → startOf w c source destination count ≡ Moves t → source < addressEnd
+      → destination < addressEnd → count ≤ mostBytes → transferFits t ≡ true
+  -- a transfer that moves has bytes, and the start and the count of a fixed side are multiples of the width
+  pub start-suits : (w : ℕ) (c : Control) (source destination count : ℕ) (t : Transfer) → startOf w c source destination count ≡ Moves t
+      → Suited w c source destination count
+  -- and any such transfer moves, from its first byte on
+  pub suited-starts : (w : ℕ) (c : Control) (source destination count : ℕ) → Suited w c source destination count
+      → startOf w c source destination count ≡ Moves (record { source = source; destination = destination; total = count; moved = 0 })

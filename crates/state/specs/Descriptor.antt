@@ -1,12 +1,14 @@
 -- RULES.md, "Descriptor and steps": a descriptor's layout, and where a transfer starts.
 use Prim.Native.Nat.{ℕ, _+_, _%_, _^_}
+use mathlib.Core.Bool.{Bool, not}
 use mathlib.Core.List.{List}
 use lib.Dec.{eqb}
-use Rattle.kit.specs.Choice.{when}
+use Rattle.kit.specs.Choice.{when, both, either}
 use Rattle.kit.specs.Word.{wordAt}
 use Rattle.state.specs.declared.descriptor.Descriptor.{Descriptor}
 use Rattle.state.specs.declared.descriptor.Start.{Start}
 use Rattle.state.specs.declared.descriptor.Start.the-variants.{Moves, Internal}
+use Rattle.state.specs.declared.engine.Control.{Control}
 use Rattle.state.specs.Bits.{bit, pointer}
 
 -- 32 bytes, at a pointer
@@ -47,8 +49,15 @@ descriptorAt m at = record {
   stale = bit complete (wordAt m (at + statusAt));
 }
 
--- where a transfer starts, at its fetch or its BTT write: a count of 0 is an internal error, any other moves
-abbrev pub startOf : ℕ → ℕ → ℕ → Start
-startOf source destination count =
+-- a side that is fixed (key hole) needs its start and the count to be multiples of the width; one that increments may lie anywhere
+abbrev pub suits : Bool → ℕ → ℕ → ℕ → Bool
+suits fixed w start count = either (not fixed) (both (eqb (start % w) 0) (eqb (count % w) 0))
+
+-- where a transfer starts, at its fetch or its BTT write: a count of 0 is an internal error, and so is, right after it, a
+-- fixed side off the multiples; any other transfer moves
+abbrev pub startOf : ℕ → Control → ℕ → ℕ → ℕ → Start
+startOf w c source destination count =
     when (eqb count 0) Internal
+    (when (both (suits (c .keyholeread) w source count) (suits (c .keyholewrite) w destination count))
     (Moves (record { source = source; destination = destination; total = count; moved = 0 }))
+    Internal)

@@ -22,7 +22,7 @@ use Rattle.state.specs.declared.engine.Phase.the-variants.{Idle, Fetch, 
 abbrev pub freshOf : Settings → Engine
 freshOf settings = record {
   settings = settings;
-  control = record { sgmode = false; iocen = false; erren = false };
+  control = record { sgmode = false; keyholeread = false; keyholewrite = false; iocen = false; erren = false };
   status = record { fault = Clear; ioc = false; err = false };
   pointers = record { current = 0; tail = 0; next = 0; heldnext = 0 };
   simple = record { sa = 0; da = 0; btt = 0 };

@@ -10,6 +10,10 @@ pub const RESET: u32 = 2;
 
 pub const SG_MODE: u32 = 3;
 
+pub const KEY_HOLE_READ: u32 = 4;
+
+pub const KEY_HOLE_WRITE: u32 = 5;
+
 pub const IOC_IRQ_EN: u32 = 12;
 
 pub const ERR_IRQ_EN: u32 = 14;

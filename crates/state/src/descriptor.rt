@@ -1,12 +1,14 @@
 // RULES.md, "Descriptor and steps": a descriptor's layout, and where a transfer starts.
 use crate::bits::bit;
+use crate::engine::Control;
 use crate::engine::Transfer;
+use kit::logic::both;
 use kit::word::load;
 ghost use mathlib.Core.Path.{_≡_};
-ghost use Prim.Native.Nat.{_+_, _≤_};
+ghost use Prim.Native.Nat.{_+_, _≤_, _<_};
 ghost use lib.ListN.{length};
 ghost use Rattle.state.specs.Bits.{pointer as pointerOf};
-ghost use Rattle.state.specs.Descriptor.{descriptorBytes, countOf, descriptorAt, startOf};
+ghost use Rattle.state.specs.Descriptor.{descriptorBytes, countOf, descriptorAt, suits as suitsOf, startOf};
 
 // A descriptor's bytes; it lies at a multiple of ALIGNMENT.
 pub const BYTES: usize = 32;
@@ -70,11 +72,36 @@ pub fn load_descriptor(memory: &[u8], at: usize) -> Descriptor
     }
 }
 
-// A transfer at its start, by a fetch or a BTT write: a count of 0 is an internal error.
-pub fn start_transfer(source: u32, destination: u32, count: u32) -> Start
-    ensures { λ r. ⌜ r ≡ startOf source destination count ⌝ }
+// A fixed side's start and the count are multiples of the width; a side that increments may lie anywhere.
+fn suits(fixed: bool, width: u32, start: u32, count: u32) -> bool
+    requires { ⌜ 0 < width ⌝ }
+    ensures { λ r. ⌜ r ≡ suitsOf fixed width start count ⌝ }
+{
+    if fixed {
+        return both(start % width == 0, count % width == 0);
+    }
+    true
+}
+
+// A transfer at its start, by a fetch or a BTT write: a count of 0 is an internal error, and so is a fixed side off the
+// multiples of the width.
+pub fn start_transfer(
+    width: u32,
+    control: Control,
+    source: u32,
+    destination: u32,
+    count: u32,
+) -> Start
+    requires { ⌜ 0 < width ⌝ }
+    ensures { λ r. ⌜ r ≡ startOf width control source destination count ⌝ }
 {
     if count == 0 {
+        return Start::Internal;
+    }
+    if !suits(control.keyholeread, width, source, count) {
+        return Start::Internal;
+    }
+    if !suits(control.keyholewrite, width, destination, count) {
         return Start::Internal;
     }
     Start::Moves(Transfer {

@@ -17,9 +17,11 @@ ghost use Rattle.kit.specs.Limits.{addressEnd};
 ghost use Rattle.state.specs.Bits.{errorBitOf};
 ghost use Rattle.state.specs.State.{freshOf, busyOf, errorSetOf, aligned, transferFits, phaseFits, wellFormedOf, interruptLineOf};
 
-// CDMACR's kept bits: SGMode, IOC_IrqEn, Err_IrqEn.
+// CDMACR's kept bits: SGMode, Key Hole Read and Write (source and destination fixed), IOC_IrqEn, Err_IrqEn.
 pub struct Control {
     pub sgmode: bool,
+    pub keyholeread: bool,
+    pub keyholewrite: bool,
     pub iocen: bool,
     pub erren: bool,
 }
@@ -97,6 +99,8 @@ pub fn fresh(settings: Settings) -> Engine
         settings,
         control: Control {
             sgmode: false,
+            keyholeread: false,
+            keyholewrite: false,
             iocen: false,
             erren: false,
         },

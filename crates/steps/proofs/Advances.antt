@@ -10,8 +10,7 @@ use Rattle.kit.proofs.Choice.{cases}
 use Rattle.memory.specs.declared.window.Window.{Window}
 use Rattle.memory.specs.declared.verdict.Verdict.{Verdict}
 use Rattle.memory.specs.declared.verdict.Verdict.the-variants.{Okay, Slave as SlaveError, Decode as DecodeError}
-use Rattle.memory.specs.Verdict.{groupOf, pairOf}
-use Rattle.memory.specs.Burst.{copied}
+use Rattle.memory.specs.Verdict.{groupOf}
 use Rattle.state.specs.declared.engine.Engine.{Engine}
 use Rattle.state.specs.declared.engine.Transfer.{Transfer}
 use Rattle.state.specs.declared.engine.ErrorBit.{ErrorBit}
@@ -25,7 +24,7 @@ use Rattle.state.specs.Descriptor.{descriptorBytes, descriptorAt, startOf}
 use Rattle.state.specs.State.{busyOf, errorSetOf, withPhase, withHeldnext}
 use Rattle.steps.specs.declared.event.Event.the-variants.{Fetch as Fetched}
 use Rattle.steps.specs.declared.event.Advanced.{Advanced}
-use Rattle.steps.specs.Step.{AfterAdvance, advanceSeen, begun, haltOf, phaseAfterFetchOf, acceptOf, fetchBy, readsAt, writesAt, nextBytes, afterBurstOf, afterFaultOf, moveBurstBy, statusPlace, statusWordOf, afterUpdateOf, updateBy, advanceBy, advanceOf}
+use Rattle.steps.specs.Step.{AfterAdvance, advanceSeen, begun, haltOf, phaseAfterFetchOf, acceptOf, fetchBy, nextBytes, toldAt, burstAnswer, burstMoved, afterBurstOf, afterFaultOf, moveBurstBy, statusPlace, statusWordOf, afterUpdateOf, updateBy, advanceBy, advanceOf}
 
 -- an outcome that is an error
 abbrev pub failed : Outcome → Bool
@@ -43,11 +42,11 @@ module _ (s : Engine) (m : List ℕ) (windows : List Window) where
   abbrev pub fetched : Engine
   fetched =
       withPhase (withHeldnext s (descriptor .next))
-      (phaseAfterFetchOf (startOf (descriptor .source) (descriptor .destination) (descriptor .count)))
+      (phaseAfterFetchOf (startOf (s .settings .width) (s .control) (descriptor .source) (descriptor .destination) (descriptor .count)))
 
   -- what a transfer's next burst answers
   abbrev pub judged : Transfer → Verdict
-  judged t = pairOf (length m) windows (readsAt t) (writesAt t) (nextBytes s t)
+  judged t = burstAnswer s t (length m) windows (nextBytes s t)
 
   pub data Advance : AfterAdvance → Type 0 where
     rests : s .phase ≡ Idle → Advance (begun s m)
@@ -55,9 +54,9 @@ module _ (s : Engine) (m : List ℕ) (windows : List Window) where
     fetches : s .phase ≡ Fetch → groupOf (length m) windows (s .pointers .current) descriptorBytes ≡ Okay → descriptor .stale ≡ false
         → Advance (advanceSeen (record { event = Fetched (s .pointers .current); engine = fetched }) m)
     moves : (t : Transfer) → s .phase ≡ Move t → judged t ≡ Okay
-        → Advance (advanceSeen (afterBurstOf s t (writesAt t) (nextBytes s t)) (copied m (readsAt t) (writesAt t) (nextBytes s t)))
+        → Advance (advanceSeen (afterBurstOf s t (toldAt s t) (nextBytes s t)) (burstMoved s t m (nextBytes s t)))
     faults : (t : Transfer) → s .phase ≡ Move t → (o : Outcome) → failed o ≡ true → (b : ErrorBit) → errorSetOf b ≡ true
-        → Advance (advanceSeen (afterFaultOf s (writesAt t) o b) m)
+        → Advance (advanceSeen (afterFaultOf s (toldAt s t) o b) m)
     updates : (o : Outcome) → s .phase ≡ Update o → groupOf (length m) windows (statusPlace s) 4 ≡ Okay
         → Advance (advanceSeen (afterUpdateOf s o (statusWordOf o)) (sets m (statusPlace s) (bytesOf (statusWordOf o))))
 

@@ -5,18 +5,16 @@ use mathlib.Core.Bool.{Bool, true, false}
 use mathlib.Core.List.{List}
 use native.Mathlib.Nat.{mul-mod-left}
 use native.Mathlib.Omega.{arith}
-use lib.ListN.{length, take, drop}
+use lib.ListN.{length}
 use lib.Seq.{length-sets}
 use lib.Dec.{eqb}
 use borrow.Author.Tests.{eqb-false}
-use Rattle.kit.specs.Choice.{when}
 use Rattle.kit.specs.Limits.{mostBytes, mostMemory, addressEnd}
 use Rattle.kit.specs.Settings.{legalOf}
 use Rattle.kit.specs.Word.{wordAt, bytesOf}
 use Rattle.kit.proofs.Choice.{cases, never}
 use Rattle.memory.specs.declared.window.Window.{Window}
-use Rattle.memory.specs.Verdict.{groupOf}
-use Rattle.memory.proofs.Groups.{pair-okay-fits}
+use Rattle.sides.proofs.Claims.{claims}
 use Rattle.state.specs.declared.engine.Status.{Status}
 use Rattle.state.specs.declared.engine.Engine.{Engine}
 use Rattle.state.specs.declared.engine.Transfer.{Transfer}
@@ -25,16 +23,19 @@ use Rattle.state.specs.declared.engine.ErrorBit.the-variants.{DmaIntErr, DmaSlv
 use Rattle.state.specs.declared.engine.Outcome.{Outcome}
 use Rattle.state.specs.declared.engine.Outcome.the-variants.{Complete, Internal, Slave, Decode}
 use Rattle.state.specs.declared.engine.Phase.{Phase}
-use Rattle.state.specs.declared.engine.Phase.the-variants.{Idle, Fetch, Move, Update}
+use Rattle.state.specs.declared.engine.Phase.the-variants.{Idle, Move, Update}
 use Rattle.state.specs.declared.descriptor.Start.{Start}
+use Rattle.state.specs.declared.descriptor.Start.the-variants.{Moves, Internal as InternalError}
+use Rattle.state.specs.declared.engine.Control.{Control}
 use Rattle.state.specs.Descriptor.{startOf}
-use Rattle.state.specs.State.{busyOf, errorSetOf, phaseFits, transferFits, wellFormedOf, withStatus, withPhase}
+use Rattle.state.specs.State.{busyOf, errorSetOf, phaseFits, withStatus, withPhase}
+use Rattle.state.proofs.Start as start
 use Rattle.state.proofs.WellFormed.{transfer-fits, transfer-fits-test, WellFormed, well-formed, well-formed-test}
-use Rattle.steps.specs.Step.{AfterAdvance, stopOnErrorOf, phaseAfterFetchOf, finishTransferOf, readsAt, writesAt, nextBytes, statusPlace, statusWordOf, completeDescriptorOf, retireOf, advanceOf}
+use Rattle.steps.specs.Step.{AfterAdvance, stopOnErrorOf, phaseAfterFetchOf, finishTransferOf, readPlace, writePlace, nextBytes, statusPlace, statusWordOf, completeDescriptorOf, retireOf, advanceOf}
 use Rattle.steps.specs.Claims.{Bytes, Lasts, Keeps, AdvanceKeeps, AdvanceWellFormed}
 use Rattle.steps.proofs.Advances.{Advance, rests, halts, fetches, moves, faults, updates, descriptor, advances}
-use Rattle.steps.proofs.Bursts.{burst-fits}
-use Rattle.steps.proofs.Stored.{word-fits, sets-bytes, copied-bytes, word-bytes}
+use Rattle.steps.proofs.Bursts.{burst-fits, answer-low}
+use Rattle.steps.proofs.Stored.{word-fits, sets-bytes, moved-bytes, word-bytes}
 
 -- ---- what only a register write changes, and the memory
 
@@ -72,7 +73,7 @@ module _ (s : Engine) (m : List ℕ) where
   memory-length (rests e) = refl
   memory-length (halts e b f) = refl
   memory-length (fetches e okay fresh) = refl
-  memory-length (moves t e okay) = length-sets m (writesAt t) (take (nextBytes s t) (drop (readsAt t) m))
+  memory-length (moves t e okay) = claims .length-stays m (readPlace (s .settings) (s .control .keyholeread) t) (writePlace (s .settings) (s .control .keyholewrite) t) (t .moved) (nextBytes s t)
   memory-length (faults t e o f b g) = refl
   memory-length (updates o e okay) = length-sets m (statusPlace s) (bytesOf (statusWordOf o))
 
@@ -80,7 +81,7 @@ module _ (s : Engine) (m : List ℕ) where
   memory-bytes (rests e) h = h
   memory-bytes (halts e b f) h = h
   memory-bytes (fetches e okay fresh) h = h
-  memory-bytes (moves t e okay) h = copied-bytes m (readsAt t) (writesAt t) (nextBytes s t) h
+  memory-bytes (moves t e okay) h = moved-bytes m (readPlace (s .settings) (s .control .keyholeread) t) (writePlace (s .settings) (s .control .keyholewrite) t) (t .moved) (nextBytes s t) h
   memory-bytes (faults t e o f b g) h = h
   memory-bytes (updates o e okay) h = sets-bytes m (statusPlace s) (bytesOf (statusWordOf o)) h (word-bytes (statusWordOf o))
 
@@ -108,13 +109,13 @@ pair-well s status p h idle fits = record {
   phase-fits = fits;
 }
 
-start-fits : (source destination total : ℕ) (chain : Bool) → chain ≡ true → source < addressEnd → destination < addressEnd → total ≤ mostBytes
-    → phaseFits (phaseAfterFetchOf (startOf source destination total)) chain ≡ true
-start-fits source destination total chain e hs hd ht =
-    cases (λ (x : Start). phaseFits (phaseAfterFetchOf x) chain ≡ true) (eqb total 0) (λ _. e)
-    (λ z. let nonzero = eqb-false total 0 z in
-    transfer-fits-test (record { source = source; destination = destination; total = total; moved = 0 })
-    (record { moved-less = omega (arith, nonzero); total-small = ht; source-inside = omega arith; destination-inside = omega arith }))
+start-fits : (w : ℕ) (c : Control) (source destination total : ℕ) (chain : Bool) → chain ≡ true → source < addressEnd → destination < addressEnd
+    → total ≤ mostBytes → phaseFits (phaseAfterFetchOf (startOf w c source destination total)) chain ≡ true
+start-fits w c source destination total chain e hs hd ht = go (startOf w c source destination total) refl
+  where
+    go : (x : Start) → startOf w c source destination total ≡ x → phaseFits (phaseAfterFetchOf x) chain ≡ true
+    go (Moves t) f = start.start-fits w c source destination total t f hs hd ht
+    go InternalError f = e
 
 module _ (s : Engine) (m : List ℕ) (windows : List Window) (legals : legalOf (s .settings) ≡ true)
     (small : length m ≤ mostMemory) (bytes : Bytes m) (h : WellFormed s) where
@@ -174,7 +175,7 @@ module _ (s : Engine) (m : List ℕ) (windows : List Window) (legals : legalOf (
         held-aligned = mul-mod-left (wordAt m (at + 0) / 64) 64;
         count-small = h .count-small;
         error-idle = λ x. absurd (no-error s h (ap busyOf e) x);
-        phase-fits = start-fits (d .source) (d .destination) (d .count) (s .control .sgmode) (fits e)
+        phase-fits = start-fits (s .settings .width) (s .control) (d .source) (d .destination) (d .count) (s .control .sgmode) (fits e)
             (word-fits m bytes (at + 0x08)) (word-fits m bytes (at + 0x10)) (omega arith);
       }
   view-well (moves t e okay) =
@@ -182,7 +183,7 @@ module _ (s : Engine) (m : List ℕ) (windows : List Window) (legals : legalOf (
       let f = transfer-fits t (fits e) in
       let p = burst-fits s t legals (fits e) in
       let n = nextBytes s t in
-      let inside = pair-okay-fits (length m) windows (readsAt t) (writesAt t) n okay (p .some) in
+      let low = answer-low (s .settings) (s .control .keyholeread) (s .control .keyholewrite) t (length m) windows n okay (p .some) in
       cases WellFormed (eqb (t .moved + n) (t .total)) (λ _. finished-well busy)
       (λ z. let short = eqb-false (t .moved + n) (t .total) z in
       let u : Transfer = record { source = t .source; destination = t .destination; total = t .total; moved = t .moved + n } in
@@ -191,8 +192,8 @@ module _ (s : Engine) (m : List ℕ) (windows : List Window) (legals : legalOf (
       (record {
         moved-less = omega (arith, short);
         total-small = f .total-small;
-        source-inside = omega (arith, inside .0);
-        destination-inside = omega (arith, inside .1);
+        source-inside = omega (arith, low .0, p .within, f .total-small, small);
+        destination-inside = omega (arith, low .1, p .within, f .total-small, small);
       })))
   view-well (faults t e o f b g) = cases WellFormed (s .control .sgmode) (λ c. phase-well (Update o) (ap busyOf e) c) (λ _. halted-well b)
   view-well (updates o e okay) = retired-well (fits e) (ap busyOf e) o

@@ -7,7 +7,7 @@ use lib.ListN.{set, take, drop}
 use lib.Seq.{sets, getD-drop}
 use Rattle.kit.specs.Limits.{addressEnd}
 use Rattle.kit.specs.Word.{wordAt, bytesOf}
-use Rattle.memory.specs.Burst.{copied}
+use Rattle.sides.specs.Sides.{sideRead, sideWritten, sidesMoved}
 use Rattle.steps.specs.Claims.{Bytes}
 
 pub word-fits : (m : List ℕ) → Bytes m → (at : ℕ) → wordAt m at < addressEnd
@@ -33,8 +33,19 @@ pub sets-bytes : (m : List ℕ) (i : ℕ) (vs : List ℕ) → Bytes m → Bytes 
 sets-bytes m i [] h g = h
 sets-bytes m i (v ∷ vs) h g = sets-bytes (set m i v) (suc i) vs (set-bytes m i v h (g 0)) (λ k. g (suc k))
 
-pub copied-bytes : (m : List ℕ) (from to n : ℕ) → Bytes m → Bytes (copied m from to n)
-copied-bytes m from to n h = sets-bytes m to (take n (drop from m)) h (take-bytes n (drop from m) (drop-bytes from m h))
+read-bytes : (m : List ℕ) (place : ℕ → ℕ) (k n : ℕ) → Bytes m → Bytes (sideRead m place k n)
+unfolding sideRead
+read-bytes m place k zero h i = omega arith
+read-bytes m place k (suc n) h zero = h (place k)
+read-bytes m place k (suc n) h (suc i) = read-bytes m place (suc k) n h i
+
+written-bytes : (m : List ℕ) (place : ℕ → ℕ) (k : ℕ) (vs : List ℕ) → Bytes m → Bytes vs → Bytes (sideWritten m place k vs)
+unfolding sideWritten
+written-bytes m place k [] h g = h
+written-bytes m place k (v ∷ vs) h g = written-bytes (set m (place k) v) place (suc k) vs (set-bytes m (place k) v h (g 0)) (λ i. g (suc i))
+
+pub moved-bytes : (m : List ℕ) (reads writes : ℕ → ℕ) (k n : ℕ) → Bytes m → Bytes (sidesMoved m reads writes k n)
+moved-bytes m reads writes k n h = written-bytes m writes k (sideRead m reads k n) h (read-bytes m reads k n h)
 
 pub word-bytes : (v : ℕ) → Bytes (bytesOf v)
 word-bytes v zero = omega arith

@@ -1,18 +1,19 @@
 -- RULES.md, "Descriptor and steps": one step does one of these: idle, fetch, move, update.
-use Prim.Native.Nat.{ℕ, _+_, _-_, _^_}
-use mathlib.Core.Bool.{true}
+use Prim.Native.Nat.{ℕ, _+_, _-_, _*_, _^_, min}
+use mathlib.Core.Bool.{Bool, true}
 use mathlib.Core.List.{List}
 use lib.ListN.{length}
 use lib.Seq.{sets}
 use lib.Dec.{eqb}
 use Rattle.kit.specs.Choice.{when}
 use Rattle.kit.specs.Word.{bytesOf}
+use Rattle.kit.specs.declared.settings.Settings.{Settings}
 use Rattle.cut.specs.Cut.{burstBytes}
 use Rattle.memory.specs.declared.window.Window.{Window}
 use Rattle.memory.specs.declared.verdict.Verdict.{Verdict}
 use Rattle.memory.specs.declared.verdict.Verdict.the-variants.{Okay, Slave as SlaveError, Decode as DecodeError}
-use Rattle.memory.specs.Verdict.{groupOf, pairOf}
-use Rattle.memory.specs.Burst.{copied}
+use Rattle.memory.specs.Verdict.{worse, groupOf}
+use Rattle.sides.specs.Sides.{placeOf, sideAnswer, sidesMoved}
 use Rattle.state.specs.declared.engine.Engine.{Engine}
 use Rattle.state.specs.declared.engine.Transfer.{Transfer}
 use Rattle.state.specs.declared.engine.ErrorBit.{ErrorBit}
@@ -54,7 +55,7 @@ haltOf s b = record { event = Halt (s .pointers .current) (errorBitOf b); engine
 
 -- ---- fetch
 
--- BTT 0 goes to update with DMAIntErr, and any other count to move
+-- a count of 0, or a fixed side off the multiples of the width, goes to update with DMAIntErr; any other transfer moves
 abbrev pub phaseAfterFetchOf : Start → Phase
 phaseAfterFetchOf (Moves t) = Move t
 phaseAfterFetchOf InternalError = Update Internal
@@ -65,7 +66,7 @@ acceptOf s d =
     when (d .stale) (haltOf s SgIntErr)
     (record {
       event = Fetched (s .pointers .current);
-      engine = withPhase (withHeldnext s (d .next)) (phaseAfterFetchOf (startOf (d .source) (d .destination) (d .count)));
+      engine = withPhase (withHeldnext s (d .next)) (phaseAfterFetchOf (startOf (s .settings .width) (s .control) (d .source) (d .destination) (d .count)));
     })
 
 -- fetch of the 32 bytes: decode error SGDecErr, slave error SGSlvErr
@@ -79,16 +80,57 @@ fetchOf s m windows = fetchBy s m (groupOf (length m) windows (s .pointers .curr
 
 -- ---- move
 
--- where the next burst of a transfer is read and written
+-- where the next burst of a transfer is read and written, on a side that increments
 abbrev pub readsAt : Transfer → ℕ
 readsAt t = t .source + t .moved
 
 abbrev pub writesAt : Transfer → ℕ
 writesAt t = t .destination + t .moved
 
--- the bytes of the first burst of the cut of what remains
+-- where byte k of a transfer is read and written: CDMACR bit 4 fixes the source at its word, bit 5 the destination
+abbrev pub readPlace : Settings → Bool → Transfer → ℕ → ℕ
+readPlace x fixed t = placeOf fixed (x .width) (t .source)
+
+abbrev pub writePlace : Settings → Bool → Transfer → ℕ → ℕ
+writePlace x fixed t = placeOf fixed (x .width) (t .destination)
+
+-- a fixed destination takes pieces of at most so many beats
+abbrev pub mostFixedBeats : ℕ
+mostFixedBeats = 16
+
+abbrev pub pieceBytes : Settings → ℕ
+pieceBytes x = x .width * min (x .beats) mostFixedBeats
+
+-- the bytes of the next burst: the first of the cut of what remains; to a fixed destination a piece, the last one shorter
+abbrev pub bytesBy : Settings → Bool → Transfer → ℕ
+bytesBy x writes t =
+    when writes (min (pieceBytes x) (t .total - t .moved)) (burstBytes (x .width) (x .beats) (writesAt t) (t .total - t .moved))
+
+-- what its event tells of its place: the first byte written, or the start of a fixed destination
+abbrev pub toldBy : Bool → Transfer → ℕ
+toldBy writes t = when writes (t .destination) (writesAt t)
+
+-- what its n source bytes and n destination bytes, those and no others, answer together
+abbrev pub answerBy : Settings → Bool → Bool → Transfer → ℕ → List Window → ℕ → Verdict
+answerBy x reads writes t size windows n =
+    worse (sideAnswer size windows (readPlace x reads t) (t .moved) n) (sideAnswer size windows (writePlace x writes t) (t .moved) n)
+
+-- the memory after them: all source bytes are read before any is written
+abbrev pub movedBy : Settings → Bool → Bool → Transfer → List ℕ → ℕ → List ℕ
+movedBy x reads writes t m n = sidesMoved m (readPlace x reads t) (writePlace x writes t) (t .moved) n
+
+-- the same of an engine, by its settings and its key hole bits
 abbrev pub nextBytes : Engine → Transfer → ℕ
-nextBytes s t = burstBytes (s .settings .width) (s .settings .beats) (writesAt t) (t .total - t .moved)
+nextBytes s = bytesBy (s .settings) (s .control .keyholewrite)
+
+abbrev pub toldAt : Engine → Transfer → ℕ
+toldAt s = toldBy (s .control .keyholewrite)
+
+abbrev pub burstAnswer : Engine → Transfer → ℕ → List Window → ℕ → Verdict
+burstAnswer s = answerBy (s .settings) (s .control .keyholeread) (s .control .keyholewrite)
+
+abbrev pub burstMoved : Engine → Transfer → List ℕ → ℕ → List ℕ
+burstMoved s = movedBy (s .settings) (s .control .keyholeread) (s .control .keyholewrite)
 
 -- after the last burst: chain mode goes to update, simple mode ends in that same step and sets IOC_Irq
 abbrev pub finishTransferOf : Engine → Engine
@@ -114,14 +156,14 @@ afterFaultOf s destination outcome b = record {
   engine = when (s .control .sgmode) (withPhase s (Update outcome)) (stopOnErrorOf s b);
 }
 
--- move, by what the burst's source and destination bytes answer together: all source bytes are read before any is written
+-- move, by what its bytes answer
 abbrev pub moveBurstBy : Engine → Transfer → List ℕ → ℕ → Verdict → AfterAdvance
-moveBurstBy s t m bytes Okay = advanceSeen (afterBurstOf s t (writesAt t) bytes) (copied m (readsAt t) (writesAt t) bytes)
-moveBurstBy s t m bytes SlaveError = advanceSeen (afterFaultOf s (writesAt t) Slave DmaSlvErr) m
-moveBurstBy s t m bytes DecodeError = advanceSeen (afterFaultOf s (writesAt t) Decode DmaDecErr) m
+moveBurstBy s t m bytes Okay = advanceSeen (afterBurstOf s t (toldAt s t) bytes) (burstMoved s t m bytes)
+moveBurstBy s t m bytes SlaveError = advanceSeen (afterFaultOf s (toldAt s t) Slave DmaSlvErr) m
+moveBurstBy s t m bytes DecodeError = advanceSeen (afterFaultOf s (toldAt s t) Decode DmaDecErr) m
 
 abbrev pub moveBurstOf : Engine → Transfer → List ℕ → List Window → AfterAdvance
-moveBurstOf s t m windows = moveBurstBy s t m (nextBytes s t) (pairOf (length m) windows (readsAt t) (writesAt t) (nextBytes s t))
+moveBurstOf s t m windows = moveBurstBy s t m (nextBytes s t) (burstAnswer s t (length m) windows (nextBytes s t))
 
 -- ---- update
 

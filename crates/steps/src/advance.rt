@@ -8,6 +8,9 @@ use state::engine::Engine;
 use state::engine::Phase;
 ghost use mathlib.Core.Path.{_≡_};
 ghost use mathlib.Core.Bool.{true};
+ghost use Prim.Native.Nat.{_≤_};
+ghost use lib.ListN.{length};
+ghost use Rattle.kit.specs.Limits.{mostMemory};
 ghost use Rattle.kit.specs.Settings.{legalOf};
 ghost use Rattle.memory.specs.Windows.{windowsOf};
 ghost use Rattle.state.specs.State.{wellFormedOf};
@@ -16,6 +19,7 @@ ghost use Rattle.steps.specs.Step.{advanceSeen, advanceOf};
 pub fn advance(engine: Engine, memory: &mut [u8], windows: &[u32]) -> Advanced
     requires { ⌜ legalOf (engine .settings) ≡ true ⌝ }
     requires { ⌜ wellFormedOf engine ≡ true ⌝ }
+    requires { ⌜ length (now memory) ≤ mostMemory ⌝ }
     ensures { λ r. ⌜ advanceSeen r (now (memory .exit)) ≡ advanceOf engine (now (memory .entry)) (windowsOf (now (windows .entry))) ⌝ }
 {
     let phase = engine.phase;

@@ -15,10 +15,11 @@ use state::engine::Outcome;
 use state::engine::Phase;
 use state::engine::Pointers;
 ghost use mathlib.Core.Path.{_≡_};
+ghost use Prim.Native.Nat.{_<_};
 ghost use Rattle.memory.specs.Windows.{windowsOf};
 ghost use Rattle.steps.specs.Step.{phaseAfterFetchOf, acceptOf, fetchOf};
 
-// A count of 0 goes to update with an internal error, any other to move.
+// A transfer that does not start goes to update with an internal error.
 fn phase_after_fetch(start: Start) -> Phase
     ensures { λ r. ⌜ r ≡ phaseAfterFetchOf start ⌝ }
 {
@@ -30,12 +31,19 @@ fn phase_after_fetch(start: Start) -> Phase
 
 // A descriptor that memory gave: a stale one halts.
 fn accept(engine: Engine, descriptor: Descriptor) -> Advanced
+    requires { ⌜ 0 < engine .settings .width ⌝ }
     ensures { λ r. ⌜ r ≡ acceptOf engine descriptor ⌝ }
 {
     if descriptor.stale {
         return halt(engine, ErrorBit::SgIntErr);
     }
-    let start = start_transfer(descriptor.source, descriptor.destination, descriptor.count);
+    let start = start_transfer(
+        engine.settings.width,
+        engine.control,
+        descriptor.source,
+        descriptor.destination,
+        descriptor.count,
+    );
     let phase = phase_after_fetch(start);
     let pointers = Pointers {
         heldnext: descriptor.next,
@@ -52,6 +60,7 @@ fn accept(engine: Engine, descriptor: Descriptor) -> Advanced
 }
 
 pub fn fetch(engine: Engine, memory: &[u8], windows: &[u32]) -> Advanced
+    requires { ⌜ 0 < engine .settings .width ⌝ }
     ensures { λ r. ⌜ r ≡ fetchOf engine (now (memory .entry)) (windowsOf (now (windows .entry))) ⌝ }
 {
     let current = engine.pointers.current;

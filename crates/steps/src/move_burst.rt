@@ -1,12 +1,15 @@
-// The move of the first burst of the cut of what remains.
+// The move of the next burst of what remains of a transfer.
 use crate::event::Advanced;
 use crate::event::Event;
 use crate::halt::stop_on_error;
 use cut::Burst;
 use cut::burst_bytes;
-use memory::burst::copy;
+use cut::least;
+use cut::span;
+use kit::settings::Settings;
 use memory::verdict::Verdict;
-use memory::verdict::judge_pair;
+use sides::answer::judge_sides;
+use sides::burst::move_bytes;
 use state::engine::Engine;
 use state::engine::ErrorBit;
 use state::engine::Outcome;
@@ -15,12 +18,16 @@ use state::engine::Transfer;
 use state::engine::bit_number;
 ghost use mathlib.Core.Path.{_≡_};
 ghost use mathlib.Core.Bool.{true};
-ghost use Prim.Native.Nat.{_+_, _≤_};
-ghost use Rattle.kit.specs.Limits.{mostBytes};
+ghost use Prim.Native.Nat.{_+_, _≤_, min};
+ghost use lib.ListN.{length};
+ghost use Rattle.kit.specs.Limits.{mostBytes, mostMemory};
 ghost use Rattle.kit.specs.Settings.{legalOf};
 ghost use Rattle.memory.specs.Windows.{windowsOf};
 ghost use Rattle.state.specs.State.{transferFits};
-ghost use Rattle.steps.specs.Step.{advanceSeen, continueOrFinishOf, afterBurstOf, afterFaultOf, moveBurstOf};
+ghost use Rattle.steps.specs.Step.{advanceSeen, pieceBytes, bytesBy, toldBy, continueOrFinishOf, afterBurstOf, afterFaultOf, moveBurstOf};
+
+// A fixed destination takes pieces of at most so many beats.
+const MOST_FIXED_BEATS: u64 = 16;
 
 // The state after `moved` bytes of the transfer. After the last burst chain mode goes to update, and simple mode ends in
 // this same step.
@@ -71,6 +78,39 @@ fn after_fault(engine: Engine, destination: u32, outcome: Outcome, bit: ErrorBit
     }
 }
 
+// The bytes of a piece to a fixed destination that has `left` bytes to go.
+fn piece_bytes(settings: Settings, left: u32) -> u32
+    ensures { λ r. ⌜ r ≡ min (pieceBytes settings) left ⌝ }
+{
+    let beats = least(settings.beats as u64, MOST_FIXED_BEATS) as u32;
+    least(span(settings.width, beats), left as u64) as u32
+}
+
+// The bytes of the next burst, to a destination that is fixed or not.
+pub fn next_bytes(settings: Settings, writes: bool, transfer: Transfer) -> u32
+    requires { ⌜ legalOf settings ≡ true ⌝ }
+    requires { ⌜ transferFits transfer ≡ true ⌝ }
+    ensures { λ r. ⌜ r ≡ bytesBy settings writes transfer ⌝ }
+{
+    let left = transfer.total - transfer.moved;
+    if writes {
+        return piece_bytes(settings, left);
+    }
+    let to = transfer.destination + transfer.moved;
+    burst_bytes(settings.width, settings.beats, to as u64, left)
+}
+
+// The place that its event tells.
+pub fn told_at(writes: bool, transfer: Transfer) -> u32
+    requires { ⌜ transferFits transfer ≡ true ⌝ }
+    ensures { λ r. ⌜ r ≡ toldBy writes transfer ⌝ }
+{
+    if writes {
+        return transfer.destination;
+    }
+    transfer.destination + transfer.moved
+}
+
 // The burst's source and destination bytes are judged together; nothing is written unless both are in order.
 pub fn move_burst(
     engine: Engine,
@@ -80,24 +120,40 @@ pub fn move_burst(
 ) -> Advanced
     requires { ⌜ legalOf (engine .settings) ≡ true ⌝ }
     requires { ⌜ transferFits transfer ≡ true ⌝ }
+    requires { ⌜ length (now memory) ≤ mostMemory ⌝ }
     ensures { λ r. ⌜ advanceSeen r (now (memory .exit)) ≡ moveBurstOf engine transfer (now (memory .entry)) (windowsOf (now (windows .entry))) ⌝ }
 {
-    let from = transfer.source + transfer.moved;
-    let to = transfer.destination + transfer.moved;
-    let left = transfer.total - transfer.moved;
-    let bytes = burst_bytes(
-        engine.settings.width,
-        engine.settings.beats,
-        to as u64,
-        left,
+    let reads = engine.control.keyholeread;
+    let writes = engine.control.keyholewrite;
+    let width = engine.settings.width;
+    let bytes = next_bytes(engine.settings, writes, transfer);
+    let told = told_at(writes, transfer);
+    let verdict = judge_sides(
+        memory.len(),
+        windows,
+        width,
+        reads,
+        writes,
+        transfer.source,
+        transfer.destination,
+        transfer.moved,
+        bytes,
     );
-    let verdict = judge_pair(memory.len(), windows, from, to, bytes);
     match verdict {
         Verdict::Okay => {
-            copy(memory, from as usize, to as usize, bytes as usize);
-            after_burst(engine, transfer, to, bytes)
+            move_bytes(
+                memory,
+                width as usize,
+                reads,
+                writes,
+                transfer.source as usize,
+                transfer.destination as usize,
+                transfer.moved as usize,
+                bytes as usize,
+            );
+            after_burst(engine, transfer, told, bytes)
         }
-        Verdict::Slave => after_fault(engine, to, Outcome::Slave, ErrorBit::DmaSlvErr),
-        Verdict::Decode => after_fault(engine, to, Outcome::Decode, ErrorBit::DmaDecErr),
+        Verdict::Slave => after_fault(engine, told, Outcome::Slave, ErrorBit::DmaSlvErr),
+        Verdict::Decode => after_fault(engine, told, Outcome::Decode, ErrorBit::DmaDecErr),
     }
 }

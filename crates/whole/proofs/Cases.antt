@@ -3,6 +3,7 @@ use mathlib.Core.Path.{refl}
 use Rattle.kit.specs.Settings.{legalWidth, legalBeats}
 use Rattle.cut.specs.Cut.{reach, burstEnd}
 use Rattle.memory.specs.Verdict.{groupOf}
+use Rattle.sides.specs.Sides.{sideAnswer, sideRead, sideWritten}
 use Rattle.memory.specs.Windows.{sick}
 use Rattle.state.specs.State.{wellFormedOf}
 use Rattle.registers.specs.Write.{registerWrittenOf}
@@ -18,5 +19,5 @@ use Rattle.whole.specs.Listing.{listFrom, listingOf}
 use Rattle.whole.specs.Cases.{WholeCase}
 
 pub whole-case : WholeCase
-unfolding legalWidth legalBeats reach burstEnd groupOf sick wellFormedOf registerWrittenOf refusalOf advanceOf kindOf readingOf digitsBy digitsOf lineOf headerOf applyOf turnOn listFrom listingOf
+unfolding legalWidth legalBeats reach burstEnd groupOf sick wellFormedOf registerWrittenOf refusalOf advanceOf kindOf readingOf digitsBy digitsOf lineOf headerOf applyOf turnOn listFrom listingOf sideAnswer sideRead sideWritten
 whole-case = refl

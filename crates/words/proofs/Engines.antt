@@ -48,6 +48,8 @@ engine-from-back s =
       settings = s .settings;
       control = record {
         sgmode = truth-back (s .control .sgmode) i;
+        keyholeread = truth-back (s .control .keyholeread) i;
+        keyholewrite = truth-back (s .control .keyholewrite) i;
         iocen = truth-back (s .control .iocen) i;
         erren = truth-back (s .control .erren) i;
       };

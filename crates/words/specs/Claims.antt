@@ -17,4 +17,4 @@ pub record Words : Type 0 where
   -- words that are not those of the engine read from them make one that is not well formed
   pub words-back : (w : List ℕ) → (wordsOf (engineOf w) ≡ w) ⊎ (wellFormedOf (engineOf w) ≡ false)
   -- a fresh engine's words are its settings and zeros
-  pub fresh-engine : (settings : Settings) → wordsOf (freshOf settings) ≡ settings .width ∷ settings .beats ∷ replicate 18 0
+  pub fresh-engine : (settings : Settings) → wordsOf (freshOf settings) ≡ settings .width ∷ settings .beats ∷ replicate 20 0

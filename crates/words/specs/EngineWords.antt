@@ -1,4 +1,4 @@
--- include/belikumba.h, "Engine": the 20 words of an engine, and the engine that a list of words holds.
+-- include/belikumba.h, "Engine": the words of an engine, and the engine that a list of words holds.
 use Prim.Native.Nat.{ℕ}
 use mathlib.Core.Bool.{Bool, true, false}
 use mathlib.Core.List.{List, [], _∷_}
@@ -58,6 +58,7 @@ wordsOf s =
     ∷ s .pointers .current ∷ s .pointers .tail ∷ s .pointers .next ∷ s .pointers .heldnext
     ∷ s .simple .sa ∷ s .simple .da ∷ s .simple .btt
     ∷ phaseNumberOf (s .phase) ∷ t .source ∷ t .destination ∷ t .total ∷ t .moved
+    ∷ truth (s .control .keyholeread) ∷ truth (s .control .keyholewrite)
     ∷ []
 
 -- word i
@@ -74,6 +75,7 @@ steppedWordsOf s w =
     ∷ s .pointers .current ∷ word w 9 ∷ s .pointers .next ∷ s .pointers .heldnext
     ∷ word w 12 ∷ word w 13 ∷ word w 14
     ∷ phaseNumberOf (s .phase) ∷ t .source ∷ t .destination ∷ t .total ∷ t .moved
+    ∷ word w 20 ∷ word w 21
     ∷ []
 
 unfoldable pub errorBitFrom : ℕ → ErrorBit
@@ -90,7 +92,13 @@ abbrev pub settingsFrom : List ℕ → Settings
 settingsFrom w = record { width = word w 0; beats = word w 1 }
 
 abbrev pub controlFrom : List ℕ → Control
-controlFrom w = record { sgmode = eqb (word w 2) 1; iocen = eqb (word w 3) 1; erren = eqb (word w 4) 1 }
+controlFrom w = record {
+  sgmode = eqb (word w 2) 1;
+  keyholeread = eqb (word w 20) 1;
+  keyholewrite = eqb (word w 21) 1;
+  iocen = eqb (word w 3) 1;
+  erren = eqb (word w 4) 1;
+}
 
 abbrev pub statusFrom : List ℕ → Status
 statusFrom w = record { fault = errorBitFrom (word w 5); ioc = eqb (word w 6) 1; err = eqb (word w 7) 1 }
@@ -125,6 +133,6 @@ sameWords (x ∷ xs) (y ∷ ys) = both (eqb x y) (sameWords xs ys)
 abbrev pub illFormedOf : Settings → Engine
 illFormedOf settings = withPointers (freshOf settings) (record { current = 1; tail = 0; next = 0; heldnext = 0 })
 
--- the engine of any 20 numbers: those that are not the words of the engine they spell are one that is not well formed
+-- the engine of any numbers: those that are not the words of the engine they spell are one that is not well formed
 unfoldable pub engineOf : List ℕ → Engine
 engineOf w = when (sameWords w (wordsOf (engineFrom w))) (engineFrom w) (illFormedOf (settingsFrom w))

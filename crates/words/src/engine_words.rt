@@ -1,4 +1,4 @@
-// include/belikumba.h, "Engine": an engine as the 20 numbers that its caller keeps.
+// include/belikumba.h, "Engine": an engine as the numbers that its caller keeps.
 use kit::settings::Settings;
 use state::engine::Control;
 use state::engine::Engine;
@@ -54,7 +54,7 @@ fn moving(phase: Phase) -> Transfer
     }
 }
 
-pub fn store(engine: Engine, words: &mut [u32; 20])
+pub fn store(engine: Engine, words: &mut [u32; 22])
     ensures { λ _. ⌜ now (words .exit) ≡ wordsOf engine ⌝ }
 {
     let status = engine.status;
@@ -82,11 +82,13 @@ pub fn store(engine: Engine, words: &mut [u32; 20])
         transfer.destination,
         transfer.total,
         transfer.moved,
+        truth(engine.control.keyholeread),
+        truth(engine.control.keyholewrite),
     ];
 }
 
 // The engine after some steps, in place of the one that the words held: what only a register write changes stays as it stands.
-pub fn store_stepped(engine: Engine, words: &mut [u32; 20])
+pub fn store_stepped(engine: Engine, words: &mut [u32; 22])
     ensures { λ _. ⌜ now (words .exit) ≡ steppedWordsOf engine (now (words .entry)) ⌝ }
 {
     let status = engine.status;
@@ -114,6 +116,8 @@ pub fn store_stepped(engine: Engine, words: &mut [u32; 20])
         transfer.destination,
         transfer.total,
         transfer.moved,
+        words[20],
+        words[21],
     ];
 }
 
@@ -145,7 +149,7 @@ pub fn phase(number: u32, transfer: Transfer) -> Phase
     }
 }
 
-pub fn settings(words: &[u32; 20]) -> Settings
+pub fn settings(words: &[u32; 22]) -> Settings
     ensures { λ r. ⌜ r ≡ settingsFrom (now (words .entry)) ⌝ }
 {
     Settings {
@@ -154,17 +158,19 @@ pub fn settings(words: &[u32; 20]) -> Settings
     }
 }
 
-pub fn control(words: &[u32; 20]) -> Control
+pub fn control(words: &[u32; 22]) -> Control
     ensures { λ r. ⌜ r ≡ controlFrom (now (words .entry)) ⌝ }
 {
     Control {
         sgmode: words[2] == 1,
+        keyholeread: words[20] == 1,
+        keyholewrite: words[21] == 1,
         iocen: words[3] == 1,
         erren: words[4] == 1,
     }
 }
 
-pub fn status(words: &[u32; 20]) -> Status
+pub fn status(words: &[u32; 22]) -> Status
     ensures { λ r. ⌜ r ≡ statusFrom (now (words .entry)) ⌝ }
 {
     Status {
@@ -174,7 +180,7 @@ pub fn status(words: &[u32; 20]) -> Status
     }
 }
 
-pub fn pointers(words: &[u32; 20]) -> Pointers
+pub fn pointers(words: &[u32; 22]) -> Pointers
     ensures { λ r. ⌜ r ≡ pointersFrom (now (words .entry)) ⌝ }
 {
     Pointers {
@@ -185,7 +191,7 @@ pub fn pointers(words: &[u32; 20]) -> Pointers
     }
 }
 
-pub fn simple(words: &[u32; 20]) -> Simple
+pub fn simple(words: &[u32; 22]) -> Simple
     ensures { λ r. ⌜ r ≡ simpleFrom (now (words .entry)) ⌝ }
 {
     Simple {
@@ -195,7 +201,7 @@ pub fn simple(words: &[u32; 20]) -> Simple
     }
 }
 
-pub fn transfer(words: &[u32; 20]) -> Transfer
+pub fn transfer(words: &[u32; 22]) -> Transfer
     ensures { λ r. ⌜ r ≡ transferFrom (now (words .entry)) ⌝ }
 {
     Transfer {
@@ -207,7 +213,7 @@ pub fn transfer(words: &[u32; 20]) -> Transfer
 }
 
 // The engine that the words spell, whether or not an engine has such words.
-pub fn engine_from(words: &[u32; 20]) -> Engine
+pub fn engine_from(words: &[u32; 22]) -> Engine
     ensures { λ r. ⌜ r ≡ engineFrom (now (words .entry)) ⌝ }
 {
     let transfer = transfer(words);

@@ -3,9 +3,13 @@
 
 use crate::damage::{BAD_SETTINGS, UNKNOWN_MARKS};
 use crate::maker::{Record, MEMORY};
+use independent::engine::Engine;
 use independent::record::Bus;
+use shared::bursts::full_piece;
 use shared::random::Random;
 use shared::record::{descriptor, encode};
+use shared::registers::{KEY_HOLE, KEY_HOLE_READ, KEY_HOLE_WRITE};
+use shared::settings::{BEATS, WIDTHS};
 
 /// A trace with the numbers 1, 2, 3 and so on.
 fn numbered(all: &[Record]) -> Vec<u8> {
@@ -177,6 +181,10 @@ fn cases() -> Vec<Vec<u8>> {
         all.push(bytes);
     }
     all.extend((0..32).map(each_bit));
+    for width in WIDTHS {
+        all.push(fixed_starts(width));
+        all.extend(BEATS.map(|beats| queues(width, beats)));
+    }
     all.extend(large());
     all
 }
@@ -204,6 +212,77 @@ fn each_bit(number: u32) -> Vec<u8> {
     all.extend([write(0, 4), write(0x28, 1), Record::Steps { steps: 1 }, write(0x28, 0)]);
     all.extend([write(4, bit), Record::Read { offset: 4 }]);
     numbered(&all)
+}
+
+/// A queue that is drained, one that is filled and one that is copied to another, each in steps, then
+/// a count off the multiples; what was written is shown.
+fn queues(width: u32, beats: u32) -> Vec<u8> {
+    let piece = full_piece(&Engine::fresh(width, beats));
+    let (queue, other, block) = (4096 - width, 8192, 16_384);
+    let bytes = |seed: u8| (0..=255u8).map(|at| at.wrapping_mul(7) ^ seed).collect::<Vec<_>>();
+    let mut all = vec![
+        Record::Settings { width: width as u16, beats: beats as u16 },
+        Record::Memory { address: queue, bytes: bytes(1)[..width as usize].to_vec() },
+        Record::Memory { address: block, bytes: bytes(2).repeat(4) },
+    ];
+    for (control, source, destination, count) in [
+        (KEY_HOLE_READ, queue, block - 3, 2 * piece),
+        (KEY_HOLE_WRITE, block + 1, queue, 3 * piece + width),
+        (KEY_HOLE, queue, other, piece + width),
+        (KEY_HOLE, other, queue, piece + 1),
+    ] {
+        all.extend([write(0, control), write(0x18, source), write(0x20, destination)]);
+        all.extend([write(0x28, count), Record::Steps { steps: 1 }, write(0, control ^ 0x10)]);
+        all.extend([Record::Steps { steps: 1 }, Record::Steps { steps: 999 }]);
+        all.extend([Record::Read { offset: 0 }, Record::Read { offset: 4 }]);
+        all.extend(shown(destination + width - 4));
+    }
+    numbered(&all)
+}
+
+/// Starts with fixed sides on the multiples of W and off them, by BTT and by a descriptor.
+fn fixed_starts(width: u32) -> Vec<u8> {
+    let mut all = vec![Record::Settings { width: width as u16, beats: 16 }];
+    for sides in [KEY_HOLE_READ, KEY_HOLE_WRITE, KEY_HOLE] {
+        for [source, destination, count] in [
+            [0, 0, width],
+            [1, 0, width],
+            [0, 1, width],
+            [0, 0, width + 1],
+            [0, 0, 2 * width - 1],
+            [1, 1, 0],
+            [0, 0, 0],
+        ] {
+            let (source, destination) = (1024 + source, 2048 + destination);
+            let bytes = descriptor(0, source, destination, count, 0, 0);
+            all.extend([write(0, sides), write(0x18, source), write(0x20, destination)]);
+            all.extend([write(0x28, count), Record::Read { offset: 4 }]);
+            all.extend([Record::Steps { steps: 2 }, Record::Read { offset: 0x28 }]);
+            all.extend([write(0, 4), Record::Memory { address: 64, bytes }]);
+            all.extend([write(0, 8 | sides), write(8, 64), write(16, 64)]);
+            all.extend([Record::Steps { steps: 3 }, Record::Read { offset: 4 }]);
+            all.extend([write(0, 4), Record::Read { offset: 0 }]);
+        }
+    }
+    numbered(&all)
+}
+
+/// The word at `address` in a fault line, as the destination of a descriptor.
+fn shown(address: u32) -> Vec<Record> {
+    let failing = descriptor(0, u32::MAX, 0, 1, 0, 0);
+    vec![
+        write(0, 4),
+        Record::Memory { address: 64, bytes: failing },
+        write(0x18, address),
+        write(0x20, 64 + 0x10),
+        write(0x28, 4),
+        Record::Steps { steps: 1 },
+        write(0, 8),
+        write(8, 64),
+        write(16, 64),
+        Record::Steps { steps: 9 },
+        write(0, 4),
+    ]
 }
 
 /// Traces and listings longer than a pipe holds, and the longest run.

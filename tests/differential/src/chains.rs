@@ -64,7 +64,7 @@ pub fn chain(maker: &mut Maker) {
 }
 
 /// Distinct places, in any order.
-fn places(maker: &mut Maker, length: u32) -> Vec<u32> {
+pub fn places(maker: &mut Maker, length: u32) -> Vec<u32> {
     let mut places: Vec<u32> = Vec::new();
     // The last place of memory too: a descriptor there ends 32 bytes before the memory does.
     if maker.random.chance(5) {
@@ -111,7 +111,7 @@ fn build(maker: &mut Maker, places: &[u32]) {
 }
 
 /// The next pointer of the last descriptor.
-fn any_next(maker: &mut Maker, places: &[u32]) -> u32 {
+pub fn any_next(maker: &mut Maker, places: &[u32]) -> u32 {
     match maker.random.below(4) {
         0 => places[0],
         1 => maker.descriptor_place(),
@@ -227,7 +227,7 @@ pub fn fill_windows(maker: &mut Maker) {
 }
 
 /// Runs a chain; in between, its own tail may be moved along it, and windows may come over it.
-fn run_along(maker: &mut Maker, places: &[u32]) {
+pub fn run_along(maker: &mut Maker, places: &[u32]) {
     match maker.random.below(100) {
         0..=24 => {
             for _ in 0..maker.random.between(1, 5) {

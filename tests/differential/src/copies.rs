@@ -4,7 +4,7 @@
 use crate::maker::{Maker, MEMORY};
 use crate::pokes::{count_value, look, ready, run};
 use shared::record::descriptor;
-use shared::registers::{BTT, CDMACR, CHAIN, CURDESC, DA, RESET, SA, TAILDESC};
+use shared::registers::{kept, BTT, CDMACR, CHAIN, CURDESC, DA, RESET, SA, TAILDESC};
 
 /// One simple transfer, mostly sound.
 pub fn copy(maker: &mut Maker) {
@@ -86,7 +86,7 @@ pub fn peek(maker: &mut Maker, address: u32) {
     if !maker.sound(place, 32) || (address + 4 > place && address < place + 32) {
         return;
     }
-    if maker.busy() || maker.in_error() || maker.replay.engine.sg_mode {
+    if maker.busy() || maker.in_error() || kept(&maker.replay.engine) != 0 {
         maker.write(CDMACR, RESET);
     }
     let fill = maker.random.u32();

@@ -1,7 +1,9 @@
 // The coverage table: what the traces of a run made the independent program do.
 
 use shared::clocks::FLAGS;
-use shared::coverage::{Counts, Groups};
+use shared::coverage::{Counts, Groups, CDMACR_BITS, CDMASR_BITS};
+use shared::key_hole::{RUNS, WRITES};
+use shared::key_hole_bursts::BURSTS;
 
 use crate::families::FAMILIES;
 use crate::situations::SITUATIONS;
@@ -16,15 +18,18 @@ const NUMBERED: &Groups = &[
     ("answer", &[0, 1, 3, 4, 5, 6, 10, 11, 12, 13]),
     ("fault bit", &[5, 6]),
     ("halt bit", &[8, 9, 10]),
-    ("CDMASR bit read as 1", &[1, 4, 5, 6, 8, 9, 10, 12, 14]),
-    ("CDMASR bit read as 0", &[1, 4, 5, 6, 8, 9, 10, 12, 14]),
+    (CDMACR_BITS.0[1], CDMACR_BITS.1),
+    (CDMACR_BITS.0[0], CDMACR_BITS.1),
+    (CDMASR_BITS.0[1], CDMASR_BITS.1),
+    (CDMASR_BITS.0[0], CDMASR_BITS.1),
     ("update word bit", &[28, 29, 30, 31]),
     ("flag raised", &FLAGS),
     ("flag lowest", &FLAGS),
 ];
 
 pub fn new() -> Counts {
-    Counts::new(NUMBERED, [&WORDS[..], SITUATIONS, &FAMILIES].into_iter().flatten().copied())
+    let names = [&WORDS[..], SITUATIONS, WRITES, BURSTS, RUNS, &FAMILIES];
+    Counts::new(NUMBERED, names.into_iter().flatten().copied())
 }
 
 /// Prints the table and gives the number of its zeros.
@@ -34,5 +39,8 @@ pub fn print(counts: &Counts) -> usize {
         + counts.print_numbers(NUMBERED)
         + counts.print_tables()
         + counts.print_list("situations", SITUATIONS)
+        + counts.print_list("key hole bits written", WRITES)
+        + counts.print_list("bursts with a fixed side", BURSTS)
+        + counts.print_list("runs with a fixed side", RUNS)
         + counts.print_list("families of traces", &FAMILIES)
 }

@@ -3,20 +3,21 @@
 use std::sync::OnceLock;
 
 use crate::maker::Maker;
-use crate::{catalogue, chains, clocks, copies, damage, pokes};
+use crate::{catalogue, chains, clocks, copies, damage, pokes, queues};
 use shared::clocks::FLAGS;
 use shared::random::Random;
 
 /// The seed of the fixed traces.
 pub const FIXED: u64 = 1;
 
-pub const FAMILIES: [&str; 11] = [
+pub const FAMILIES: [&str; 12] = [
     "case",
     "prefix",
     "changed byte",
     "deep",
     "copies",
     "chains",
+    "queues",
     "clocks",
     "refused",
     "damaged",
@@ -40,12 +41,13 @@ pub fn fixed(index: u64) -> (&'static str, Vec<u8>) {
 pub fn generated(seed: u64, index: u64) -> (&'static str, Vec<u8>) {
     let mut random = Random::new(seed, index);
     let family = match random.below(100) {
-        0..=36 => "deep",
-        37..=51 => "copies",
-        52..=69 => "chains",
-        70..=77 => "clocks",
-        78..=85 => "refused",
-        86..=94 => "damaged",
+        0..=32 => "deep",
+        33..=45 => "copies",
+        46..=61 => "chains",
+        62..=71 => "queues",
+        72..=79 => "clocks",
+        80..=86 => "refused",
+        87..=94 => "damaged",
         95..=98 => "noise",
         _ => "long",
     };
@@ -63,7 +65,11 @@ fn trace(family: &str, random: Random) -> Vec<u8> {
     match family {
         "deep" => {
             for _ in 0..maker.random.between(3, 8) {
-                play(&mut maker);
+                if maker.random.chance(12) {
+                    queues::queue(&mut maker);
+                } else {
+                    play(&mut maker);
+                }
             }
         }
         "copies" => {
@@ -74,6 +80,11 @@ fn trace(family: &str, random: Random) -> Vec<u8> {
         "chains" => {
             for _ in 0..maker.random.between(1, 4) {
                 chains::chain(&mut maker);
+            }
+        }
+        "queues" => {
+            for _ in 0..maker.random.between(2, 5) {
+                queues::queue(&mut maker);
             }
         }
         "clocks" => {

@@ -13,6 +13,7 @@ mod maker;
 mod observe;
 mod observe_steps;
 mod pokes;
+mod queues;
 mod situations;
 
 use std::io::Write;

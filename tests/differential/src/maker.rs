@@ -6,6 +6,7 @@ use independent::listing::Listing;
 use independent::memory::MOST_WINDOWS;
 use independent::record::{self, Bus};
 use independent::trace::{self, Replay};
+use shared::bursts::full_piece;
 use shared::random::Random;
 use shared::record::encode;
 use shared::registers::{BTT, DA, SA};
@@ -107,6 +108,11 @@ impl Maker {
     /// A start of `count` bytes anywhere in memory.
     pub fn anywhere(&mut self, count: u32) -> u32 {
         self.random.below(MEMORY - count)
+    }
+
+    /// The place down to a multiple of W.
+    pub fn aligned(&self, place: u32) -> u32 {
+        place - place % self.replay.engine.width
     }
 
     pub fn steps(&mut self, steps: u16) {
@@ -221,6 +227,9 @@ impl Maker {
             Phase::Idle => 0,
             Phase::Fetch => 10,
             Phase::Update(_) => 1,
+            Phase::Move(Transfer { total, moved, .. }) if self.replay.engine.key_hole_write => {
+                (total - moved) / full_piece(&self.replay.engine) + 2
+            }
             Phase::Move(Transfer { destination, total, moved, .. }) => {
                 let to = destination + moved;
                 (total - moved).min(MEMORY.saturating_sub(to)) / self.unit() + 2

@@ -7,13 +7,15 @@ use independent::memory::MOST_WINDOWS;
 use independent::monitor::Clock;
 use independent::record::{read, Bus, Cause, Record};
 use independent::trace::{replay_before, Observer, Replay};
-use shared::coverage::Counts;
-use shared::registers::none_at;
+use shared::bursts::{share, sick, Burst, Side};
+use shared::coverage::{Counts, CDMACR_BITS, CDMASR_BITS};
+use shared::key_hole::{self, BY_BTT};
+use shared::registers::{none_at, CDMACR, CDMASR, CHAIN};
 use shared::settings::{BEATS, WIDTHS};
 
 use crate::coverage::WORDS;
 use crate::maker::MEMORY;
-use crate::observe_steps::{one_step, Memo, Step};
+use crate::observe_steps::{one_step, Memo, Step, Written};
 
 const TOP: u64 = 1 << 32;
 
@@ -31,6 +33,8 @@ pub fn observe(trace: &[u8], coverage: &mut Counts) -> Vec<u8> {
 struct Watcher<'a> {
     coverage: &'a mut Counts,
     memo: Memo,
+    /// The engine before the record, and before the step.
+    start: Engine,
     engine: Engine,
     flags: u64,
     held: Clock,
@@ -41,13 +45,15 @@ impl Watcher<'_> {
     fn new(coverage: &mut Counts) -> Watcher<'_> {
         let Replay { engine, monitor, .. } = Replay::fresh();
         let (flags, held) = (monitor.flags, monitor.before);
-        Watcher { coverage, memo: Memo::new(), engine, flags, held, steps: 0 }
+        let start = engine.clone();
+        Watcher { coverage, memo: Memo::new(), start, engine, flags, held, steps: 0 }
     }
 }
 
 impl Observer for Watcher<'_> {
     fn record(&mut self, replay: &Replay, record: &Record<&[u8]>) {
         before(replay, record, &mut self.memo, self.coverage);
+        self.start.clone_from(&replay.engine);
         self.flags = replay.monitor.flags;
         self.held = replay.monitor.before;
         self.steps = 0;
@@ -57,6 +63,8 @@ impl Observer for Watcher<'_> {
         match record {
             Record::Steps { steps } => {
                 run(&replay.engine, self.steps, usize::from(*steps), self.coverage);
+                let (taken, most) = (self.steps as u32, u32::from(*steps));
+                key_hole::see_run(&self.start, &replay.engine, taken, most, self.coverage);
             }
             Record::Bus(bus) => {
                 clock(bus, &self.held, self.flags, replay.monitor.flags, self.coverage);
@@ -112,13 +120,8 @@ fn count_lines(listing: &[u8], coverage: &mut Counts) {
             "fault" => coverage.number("fault bit", second),
             "halt" => coverage.number("halt bit", second),
             "update" => coverage.number("update word bit", second.trailing_zeros()),
-            "read" if first == 4 => {
-                for bit in [1, 4, 5, 6, 8, 9, 10, 12, 14] {
-                    let up = second >> bit & 1 == 1;
-                    let group = if up { "CDMASR bit read as 1" } else { "CDMASR bit read as 0" };
-                    coverage.number(group, bit);
-                }
-            }
+            "read" if first == CDMACR => coverage.bits(CDMACR_BITS, second),
+            "read" if first == CDMASR => coverage.bits(CDMASR_BITS, second),
             "bus" if second != 0 => coverage.number("flag lowest", second),
             _ => {}
         }
@@ -194,7 +197,11 @@ fn before(replay: &Replay, record: &Record<&[u8]>, memo: &mut Memo, coverage: &m
             coverage.see_if(past == 1, "MM one byte past the memory's end");
             coverage.see_if(past > 1024, "MM far past the memory's end");
             if past == 0 {
-                memo.copied[*address as usize..end].fill(false);
+                memo.written[*address as usize..end].fill(Written::default());
+                let [source, destination] = over_queues(engine, *address, bytes.len() as u32);
+                coverage.see_if(source, "memory put over a fixed source word, in its transfer");
+                let row = "memory put over a fixed destination word, in its transfer";
+                coverage.see_if(destination, row);
                 coverage.see_if(busy, "memory put in the midst of a transfer");
                 let fetched = matches!(engine.phase, Phase::Move(_) | Phase::Update(_));
                 let current = engine.current as usize;
@@ -208,6 +215,8 @@ fn before(replay: &Replay, record: &Record<&[u8]>, memo: &mut Memo, coverage: &m
             let over = u64::from(*start) < u64::from(MEMORY) && end > u64::from(MEMORY);
             coverage.see_if(over, "window past the memory's end");
             coverage.see_if(busy, "window added in the midst of a transfer");
+            let over = over_queues(engine, *start, *length).contains(&true);
+            coverage.see_if(over, "window added over a fixed word, in its transfer");
             coverage.see_if(replay.windows().len() + 1 == MOST_WINDOWS, "sixteen windows");
         }
         Record::Write { offset, value } => {
@@ -229,6 +238,13 @@ fn before(replay: &Replay, record: &Record<&[u8]>, memo: &mut Memo, coverage: &m
     }
 }
 
+/// Do bytes have one in common with the word of a fixed source that moves, of a fixed destination?
+fn over_queues(engine: &Engine, start: u32, count: u32) -> [bool; 2] {
+    let over = |side: &Side| side.fixed && share(&side.whole, &sick(&(start, count)));
+    Burst::before(engine)
+        .map_or([false; 2], |burst| [over(&burst.source), over(&burst.destination)])
+}
+
 fn register_write(
     engine: &Engine,
     offset: u16,
@@ -239,6 +255,7 @@ fn register_write(
     let busy = !engine.idle();
     let mut after = engine.clone();
     let answer = after.write(u32::from(offset), value);
+    key_hole::see_write(engine, u32::from(offset), value, &after, coverage);
     match offset {
         0x00 if value & 4 != 0 => {
             reset(engine, coverage);
@@ -247,7 +264,8 @@ fn register_write(
             memo.old_tail = None;
         }
         0x00 => {
-            coverage.see_if(answer == 4, "mode change refused while busy");
+            let mode = (value & CHAIN != 0) != engine.sg_mode;
+            coverage.see_if(answer == 4 && mode, "mode change refused while busy");
             coverage.see_if(busy && after != *engine, "enables written while busy");
             memo.mode_changed |= after.sg_mode != engine.sg_mode;
         }
@@ -278,6 +296,7 @@ fn register_write(
             coverage.see_if(zero && !high, "BTT of zero");
             coverage.see_if(zero && high, "BTT of zero with bits above 22");
             coverage.see_if(!zero && high, "BTT with bits above 22");
+            key_hole::see_start(engine, BY_BTT, [engine.sa, engine.da, value], coverage);
         }
         _ => {}
     }

@@ -1,10 +1,11 @@
 // Counts what the steps of a run did.
 
-use independent::engine::{Engine, Event, Phase, Transfer};
-use independent::memory::Window;
-
-use independent::memory::MOST_WINDOWS;
+use independent::engine::{Engine, Event, Outcome, Phase};
+use independent::memory::{Window, MOST_WINDOWS};
+use shared::bursts::{Burst, Side};
 use shared::coverage::Counts;
+use shared::key_hole::{see_start, BY_DESCRIPTOR};
+use shared::key_hole_bursts::see_burst;
 
 use crate::maker::MEMORY;
 
@@ -20,6 +21,16 @@ pub struct Step<'a> {
     pub memory: &'a [u8],
 }
 
+/// What a byte of memory was written by.
+#[derive(Clone, Copy, Default)]
+pub struct Written {
+    /// A burst, and no MM and no update since.
+    copied: bool,
+    /// Its value came from a fixed source, or through a fixed destination.
+    from_queue: bool,
+    through_queue: bool,
+}
+
 /// What is remembered of a trace from record to record.
 pub struct Memo {
     /// The last good update ended at the tail, and next was not set since.
@@ -30,10 +41,12 @@ pub struct Memo {
     /// The tail that was replaced while busy.
     pub old_tail: Option<u32>,
     pub descriptors: u32,
-    /// Bytes of memory written last by a burst.
-    pub copied: Vec<bool>,
-    /// The destination of the fetched descriptor was such a word.
-    shown: bool,
+    /// Of each byte of memory.
+    pub written: Vec<Written>,
+    /// Of the destination of the fetched descriptor, what all its bytes have.
+    shown: Written,
+    /// The fetched descriptor has a fixed side off the multiples.
+    off: bool,
 }
 
 impl Memo {
@@ -44,8 +57,9 @@ impl Memo {
             restart: false,
             old_tail: None,
             descriptors: 0,
-            copied: vec![false; MEMORY as usize],
-            shown: false,
+            written: vec![Written::default(); MEMORY as usize],
+            shown: Written::default(),
+            off: false,
         }
     }
 }
@@ -84,7 +98,12 @@ fn fetched(step: &Step, current: u32, memo: &mut Memo, coverage: &mut Counts) {
     }
     memo.mode_changed = false;
     memo.at_tail = false;
-    memo.shown = memo.copied[at + 0x10..at + 0x14].iter().all(|copied| *copied);
+    let destination = &memo.written[at + 0x10..at + 0x14];
+    memo.shown = Written {
+        copied: destination.iter().all(|byte| byte.copied),
+        from_queue: destination.iter().all(|byte| byte.from_queue),
+        through_queue: destination.iter().all(|byte| byte.through_queue),
+    };
     coverage.see_if(current == MEMORY - 64, "descriptor in the last place of memory");
     coverage.see_if(word(0x1c) != 0, "status bits below 31 at a good fetch");
     coverage.see_if(step.after.held_next == current, "next pointer to the descriptor itself");
@@ -92,6 +111,10 @@ fn fetched(step: &Step, current: u32, memo: &mut Memo, coverage: &mut Counts) {
         coverage.see("count of zero in a descriptor");
         coverage.see_if(word(0x18) != 0, "count of zero with other control bits");
     }
+    let off = step.after.phase == Phase::Update(Outcome::Internal);
+    memo.off = off && word(0x18) & 0x7f_ffff != 0;
+    let copy = [word(0x08), word(0x10), word(0x18)];
+    see_start(step.before, BY_DESCRIPTOR, copy, coverage);
 }
 
 fn halted(step: &Step, current: u32, bit: u32, memo: &mut Memo, coverage: &mut Counts) {
@@ -110,20 +133,39 @@ fn halted(step: &Step, current: u32, bit: u32, memo: &mut Memo, coverage: &mut C
     }
 }
 
-/// Source, destination, bytes ahead and bytes moved of the transfer before the step.
-fn transfer(engine: &Engine) -> (u32, u32, u32, u32) {
-    match engine.phase {
-        Phase::Move(Transfer { source, destination, total, moved }) => {
-            (source + moved, destination + moved, total - moved, moved)
-        }
-        _ => unreachable!("a burst without a transfer"),
+fn burst(step: &Step) -> Burst {
+    Burst::before(step.before).expect("a burst of an engine that moves")
+}
+
+/// What the bytes of a good burst have, from those that it read.
+fn written(burst: &Burst, memo: &mut Memo) {
+    let places = |side: &Side| {
+        let used = side.used.clone().into_iter().flatten();
+        used.map(|at| at as usize).collect::<Vec<_>>()
+    };
+    let (from, to) = (places(&burst.source), places(&burst.destination));
+    let (read, write) = (burst.source.fixed, burst.destination.fixed);
+    // With one side fixed all bytes of the other have the same.
+    let old: Vec<Written> = from.iter().map(|at| memo.written[*at]).collect();
+    for (place, at) in to.into_iter().enumerate() {
+        let old = if read || write { Written::default() } else { old[place] };
+        memo.written[at] = Written {
+            copied: true,
+            from_queue: read || old.from_queue,
+            through_queue: write || old.through_queue,
+        };
     }
 }
 
 fn moved(step: &Step, to: u32, bytes: u32, memo: &mut Memo, coverage: &mut Counts) {
-    let (from, _, left, _) = transfer(step.before);
+    let burst = burst(step);
+    written(&burst, memo);
+    if burst.has_fixed_side() {
+        see_burst(step.before, MEMORY.into(), step.windows, true, coverage);
+        return;
+    }
+    let (from, left) = (burst.source.straight.start as u32, burst.left);
     let (width, beats) = (step.before.width, step.before.beats);
-    memo.copied[to as usize..(to + bytes) as usize].fill(true);
     if bytes < left {
         coverage.cut(width, beats);
         let page = (to + bytes).is_multiple_of(4096);
@@ -164,8 +206,13 @@ fn moved(step: &Step, to: u32, bytes: u32, memo: &mut Memo, coverage: &mut Count
 }
 
 fn failed(step: &Step, memo: &Memo, coverage: &mut Counts) {
-    let (from, to, left, done) = transfer(step.before);
-    let reach = burst(step.before, to, left);
+    let burst = burst(step);
+    if burst.has_fixed_side() {
+        see_burst(step.before, MEMORY.into(), step.windows, false, coverage);
+        return;
+    }
+    let (from, to) = (burst.source.straight.start as u32, burst.destination.straight.start as u32);
+    let Burst { bytes: reach, left, moved: done, .. } = burst;
     let past = |start: u32| u64::from(start) + u64::from(reach) > u64::from(MEMORY);
     let (sick_from, sick_to) =
         (touches(step.windows, from, reach), touches(step.windows, to, reach));
@@ -192,23 +239,21 @@ fn failed(step: &Step, memo: &Memo, coverage: &mut Counts) {
             _ => "window over the destination",
         });
     }
-    let word = step.before.sg_mode && done == 0 && memo.shown;
-    coverage.see_if(word, "copied word shown by a fault line");
-}
-
-/// Bytes of the first burst of what remains, reckoned in its page so nothing passes 2^32.
-fn burst(engine: &Engine, to: u32, left: u32) -> u32 {
-    let place = to % 4096;
-    let reach = place - place % engine.width + engine.width * engine.beats;
-    left.min(reach.min(4096) - place)
+    if step.before.sg_mode && done == 0 {
+        let Written { copied, from_queue, through_queue } = memo.shown;
+        coverage.see_if(copied, "copied word shown by a fault line");
+        coverage.see_if(from_queue, "word from a fixed source shown by a fault line");
+        coverage.see_if(through_queue, "word of a fixed destination shown by a fault line");
+    }
 }
 
 fn updated(step: &Step, current: u32, word: u32, memo: &mut Memo, coverage: &mut Counts) {
+    memo.written[current as usize + 0x1c..current as usize + 0x20].fill(Written::default());
     if word != 0x8000_0000 {
         memo.at_tail = false;
+        coverage.see_if(memo.off, "update after a fixed side off the multiples");
         return;
     }
-    memo.copied[current as usize + 0x1c..current as usize + 0x20].fill(false);
     memo.descriptors += 1;
     if step.after.idle() {
         memo.at_tail = true;
@@ -217,6 +262,8 @@ fn updated(step: &Step, current: u32, word: u32, memo: &mut Memo, coverage: &mut
         memo.old_tail = None;
     } else {
         coverage.see("chain of more than one descriptor");
+        let fixed = step.before.key_hole_read || step.before.key_hole_write;
+        coverage.see_if(fixed, "chain of more than one descriptor with a fixed side");
         coverage.see_if(memo.descriptors == 3, "chain of four descriptors or more");
         let past = memo.old_tail == Some(current);
         coverage.see_if(past, "chain went on past a replaced tail");

@@ -4,7 +4,10 @@ use independent::engine::{Phase, Transfer};
 
 use crate::clocks;
 use crate::maker::{Maker, MEMORY};
-use shared::registers::{BTT, CDMACR, CDMASR, CHAIN, CURDESC, DA, RESET, SA, TAILDESC};
+use shared::registers::{
+    kept, BTT, CDMACR, CDMASR, CHAIN, CURDESC, DA, KEY_HOLE, KEY_HOLE_READ, KEY_HOLE_WRITE, RESET,
+    SA, TAILDESC,
+};
 
 /// Offsets that are no register: between two of them, past the last, and far off.
 pub const BAD_OFFSETS: [u32; 14] =
@@ -29,13 +32,15 @@ pub fn poke(maker: &mut Maker) {
     maker.write(offset, value);
 }
 
-/// A CDMACR value: seldom the reset, often one that keeps the mode.
+/// A CDMACR value: seldom the reset, often one that keeps the mode and the key hole bits.
 fn control_value(maker: &mut Maker) -> u32 {
-    let mode = if maker.replay.engine.sg_mode { CHAIN } else { 0 };
+    let kept = kept(&maker.replay.engine);
     let random = &mut maker.random;
+    let enables = random.pick(&[0, 0x1000, 0x4000, 0x5000]);
     match random.below(100) {
-        0..=39 => mode | random.pick(&[0, 0x1000, 0x4000, 0x5000]),
-        40..=69 => (mode ^ CHAIN) | random.pick(&[0, 0x1000, 0x4000, 0x5000]),
+        0..=39 => kept | enables,
+        40..=54 => (kept ^ CHAIN) | enables,
+        55..=69 => (kept ^ random.pick(&[KEY_HOLE_READ, KEY_HOLE_WRITE, KEY_HOLE])) | enables,
         70..=79 => RESET | random.u32(),
         _ => random.u32() & !RESET,
     }
@@ -72,6 +77,7 @@ pub fn count_value(maker: &mut Maker) -> u32 {
 pub fn window(maker: &mut Maker) {
     let engine = &maker.replay.engine;
     let (current, next, sg_mode) = (engine.current, engine.held_next, engine.sg_mode);
+    let (width, fixed) = (engine.width, [engine.key_hole_read, engine.key_hole_write]);
     let ahead = match engine.phase {
         Phase::Move(transfer) => Some(transfer),
         _ => None,
@@ -81,8 +87,10 @@ pub fn window(maker: &mut Maker) {
             // The first byte ahead, the last one, or any between.
             let any = maker.random.between(moved, total - 1);
             let at = maker.random.pick(&[moved, total - 1, any]);
-            let start = if maker.random.chance(50) { source } else { destination };
-            start.wrapping_add(at)
+            let (start, fixed) = maker.random.pick(&[(source, fixed[0]), (destination, fixed[1])]);
+            // Past its word a fixed side must not mind it.
+            let within = fixed && maker.random.chance(70);
+            start.wrapping_add(if within { at % width } else { at })
         }
         (50..=64, _) if sg_mode => current + 0x1c + maker.random.below(4),
         (65..=74, _) if sg_mode => next + maker.random.below(32),
@@ -114,10 +122,16 @@ pub fn memory(maker: &mut Maker) {
     let engine = &maker.replay.engine;
     let (current, next, sg_mode) = (engine.current, engine.held_next, engine.sg_mode);
     let length = maker.random.pick(&[1, 2, 3, 4, 8, 32, 33, 64, 100]);
-    let place = match maker.random.below(100) {
-        0..=29 if sg_mode => current + maker.random.pick(&[0, 0x08, 0x10, 0x18, 0x1c, 0x1f]),
-        30..=49 if sg_mode => next + maker.random.pick(&[0, 0x08, 0x10, 0x18, 0x1c, 0x1f]),
-        50..=54 => MEMORY - length,
+    let queue = match engine.phase {
+        Phase::Move(Transfer { source, .. }) if engine.key_hole_read => Some(source),
+        Phase::Move(Transfer { destination, .. }) if engine.key_hole_write => Some(destination),
+        _ => None,
+    };
+    let place = match (maker.random.below(100), queue) {
+        (0..=69, Some(queue)) => queue,
+        (0..=29, _) if sg_mode => current + maker.random.pick(&[0, 0x08, 0x10, 0x18, 0x1c, 0x1f]),
+        (30..=49, _) if sg_mode => next + maker.random.pick(&[0, 0x08, 0x10, 0x18, 0x1c, 0x1f]),
+        (50..=54, _) => MEMORY - length,
         _ => maker.place(),
     };
     let place = place.min(MEMORY - length);
@@ -201,7 +215,9 @@ pub fn ready(maker: &mut Maker, chain: bool) {
         }
         maker.write(CDMACR, RESET);
     }
-    if maker.replay.engine.sg_mode != chain || maker.random.chance(10) {
+    // Fixed sides would refuse most of what comes, so they are seldom left.
+    let fixed = kept(&maker.replay.engine) & KEY_HOLE != 0 && maker.random.chance(90);
+    if maker.replay.engine.sg_mode != chain || fixed || maker.random.chance(10) {
         let mode = if chain { CHAIN } else { 0 };
         let enables = maker.random.pick(&[0, 0, 0x1000, 0x4000, 0x5000]);
         maker.write(CDMACR, mode | enables);

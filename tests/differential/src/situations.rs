@@ -4,6 +4,7 @@ pub const SITUATIONS: &[&str] = &[
     // Chains.
     "chain of more than one descriptor",
     "chain of four descriptors or more",
+    "chain of more than one descriptor with a fixed side",
     "restart after the tail",
     "restart after the tail with a change of mode between",
     "tail replaced before a fetch",
@@ -20,7 +21,10 @@ pub const SITUATIONS: &[&str] = &[
     "count of zero with other control bits",
     "burst over its own descriptor",
     "burst over the next descriptor",
+    "update after a fixed side off the multiples",
     "copied word shown by a fault line",
+    "word from a fixed source shown by a fault line",
+    "word of a fixed destination shown by a fault line",
     // Resets.
     "reset in a simple transfer",
     "reset before a fetch",
@@ -64,7 +68,10 @@ pub const SITUATIONS: &[&str] = &[
     // In the midst of a transfer.
     "memory put in the midst of a transfer",
     "memory put over a fetched descriptor",
+    "memory put over a fixed source word, in its transfer",
+    "memory put over a fixed destination word, in its transfer",
     "window added in the midst of a transfer",
+    "window added over a fixed word, in its transfer",
     "enables written while busy",
     "mode change refused while busy",
     // Registers.

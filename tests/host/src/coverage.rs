@@ -5,7 +5,7 @@ use std::ops::{Deref, DerefMut};
 
 use shared::clocks::FLAGS;
 use shared::coverage::{
-    add_cells, add_rows, add_table, print_by_settings, BySettings, Counts, Groups,
+    add_cells, add_rows, add_table, print_by_settings, BySettings, Counts, Groups, CDMACR_BITS,
 };
 use shared::settings;
 use shared::table::{print_row, print_table};
@@ -50,6 +50,8 @@ const BESIDE: [&[(u32, u32)]; 8] = [
 ];
 
 const NUMBERED: &Groups = &[
+    (CDMACR_BITS.0[0], CDMACR_BITS.1),
+    (CDMACR_BITS.0[1], CDMACR_BITS.1),
     ("event of a step", &[0, 1, 2, 3, 4, 5]),
     ("bit of a fault", &[5, 6]),
     ("bit of a halt", &[8, 9, 10]),

@@ -14,13 +14,13 @@ use shared::random::Random;
 use shared::settings::{BEATS, WIDTHS};
 use shared::words::{
     EngineWords, CHAIN_MODE, COMPLETE_ENABLE, COMPLETE_INTERRUPT, ERROR_BIT, ERROR_BITS,
-    ERROR_ENABLE, ERROR_INTERRUPT, FETCH, IDLE, MOVE, PHASE, SOURCE, TRUTHS, UPDATES,
+    ERROR_ENABLE, ERROR_INTERRUPT, FETCH, IDLE, MOVE, MOVED, PHASE, SOURCE, TRUTHS, UPDATES,
 };
 
 const MEMORY: usize = 2048;
 
 /// Idle in both modes and with every error bit, moving in both modes, and the phases of a chain.
-fn states(random: &mut Random) -> Vec<EngineWords> {
+pub fn states(random: &mut Random) -> Vec<EngineWords> {
     let mut states = Vec::new();
     for phase in [IDLE, FETCH, MOVE].iter().chain(&UPDATES) {
         for mode in 0..2 {
@@ -115,7 +115,7 @@ pub fn no_engines(random: &mut Random, coverage: &mut Coverage) -> Result<(), St
                 each(at, value)?;
             }
         }
-        for at in SOURCE..20 {
+        for at in SOURCE..=MOVED {
             for value in [0, 1, 0x100, 0x8000_0000, u32::MAX] {
                 each(at, value)?;
             }

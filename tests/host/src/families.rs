@@ -9,19 +9,25 @@ use crate::joined;
 use crate::large;
 use crate::lone_calls::lone_calls;
 use crate::plans;
+use crate::queue_edges;
 use crate::sessions::session;
 use shared::random::Random;
 
 type Case = fn(&mut Random, &mut Coverage) -> Result<(), String>;
 
 /// Cases that every run takes once.
-const ONCE: [(&str, Case); 14] = [
+const ONCE: [(&str, Case); 19] = [
     ("registers", edges::registers),
     ("interrupts", edges::interrupts),
     ("faults", edges::faults),
     ("no engines", edges::no_engines),
     ("settings", edges::settings),
     ("window counts", edges::window_counts),
+    ("key hole bits", queue_edges::control),
+    ("key hole starts", queue_edges::starts),
+    ("key hole overlaps", queue_edges::overlaps),
+    ("key hole sick words", queue_edges::sick_words),
+    ("key hole pieces", queue_edges::pieces),
     ("clock fields", clock_edges::clock_fields),
     ("flags", clock_edges::flags),
     ("most memory", large::most_memory),

@@ -5,7 +5,8 @@ use independent::memory::LONGEST as MOST_MEMORY;
 
 use crate::coverage::Coverage;
 use crate::engine_desk::{Call, EngineDesk, Given};
-use crate::large::moving;
+use crate::large::{fix, moving};
+use crate::queues::any_fixed;
 use crate::sessions::start;
 use crate::spoil::KINDS;
 use crate::states::{self, fresh};
@@ -13,7 +14,10 @@ use crate::surroundings::{put_descriptor, windows};
 use shared::interface::Ran;
 use shared::random::Random;
 use shared::settings;
-use shared::words::{BEATS, CURRENT, ERROR_BIT, FETCH, IDLE, MOVE, PHASE, WIDTH};
+use shared::words::{
+    BEATS, CURRENT, ERROR_BIT, FETCH, IDLE, KEY_HOLE_READ, KEY_HOLE_WRITE, MOVE, MOVED, PHASE,
+    WIDTH,
+};
 
 /// Single steps compare all memory each, so longer runs go without.
 const MOST_SINGLE_STEPS: u32 = 4_000;
@@ -67,8 +71,16 @@ pub fn at_the_limits(random: &mut Random, coverage: &mut Coverage) -> Result<(),
     let mut words = moving(0, 8, 800_000, 0);
     words[..2].copy_from_slice(&[4, 2]);
     let mut desk = EngineDesk::new(&words, 800_008);
-    let bytes = random.bytes(8);
+    let bytes = random.bytes(800_008);
     desk.put(0, &bytes);
+    // As many with a fixed side: from a queue, over one, and from one to another.
+    for (destination, sides) in [(8, [1, 0]), (400_000, [0, 1]), (400_000, [1, 1])] {
+        desk.set_words(&fix(words, destination, sides));
+        for most in [[1, 65_534], [40_000, 25_535]] {
+            join(&desk, &most, coverage)?;
+        }
+    }
+    desk.set_words(&words);
     for most in [[0, 65_535], [1, 65_534], [32_768, 32_767], [65_535, 0]] {
         join(&desk, &most, coverage)?;
     }
@@ -113,13 +125,24 @@ fn joint(most: u16, ran: &Ran, desk: &EngineDesk, coverage: &mut Coverage) {
     if ran.steps == 0 {
         return;
     }
-    coverage.see(match desk.words()[PHASE] {
+    let words = desk.words();
+    coverage.see(match words[PHASE] {
         IDLE => "joint at an engine that is idle again",
         FETCH => "joint before a fetch",
         MOVE => "joint in the midst of a transfer",
         31 => "joint before a good update",
         _ => "joint between a failure and its update",
     });
+    if words[PHASE] != MOVE || !any_fixed(&words) {
+        return;
+    }
+    coverage.see(match words[KEY_HOLE_READ..=KEY_HOLE_WRITE] {
+        [1, 1] => "joint before a burst, both sides fixed",
+        [1, _] => "joint before a burst, source fixed",
+        _ => "joint before a burst, destination fixed",
+    });
+    let within = words[KEY_HOLE_READ] == 1 && !words[MOVED].is_multiple_of(words[WIDTH]);
+    coverage.see_if(within, "joint within a fixed source word");
 }
 
 /// All that the claim of joined runs says, by the library's own runs and steps.

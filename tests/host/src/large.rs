@@ -8,8 +8,8 @@ use crate::spoil::KINDS;
 use crate::states::fresh;
 use shared::random::Random;
 use shared::words::{
-    EngineWords, CHAIN_MODE, CURRENT, DESTINATION, FETCH, MOVE, MOVED, PHASE, SOURCE, TAIL, TOTAL,
-    WIDTH,
+    EngineWords, CHAIN_MODE, CURRENT, DESTINATION, FETCH, KEY_HOLE_READ, KEY_HOLE_WRITE, MOVE,
+    MOVED, PHASE, SOURCE, TAIL, TOTAL, WIDTH,
 };
 
 /// A simple transfer with the largest settings, in its midst.
@@ -20,6 +20,14 @@ pub fn moving(source: u32, destination: u32, total: u32, moved: u32) -> EngineWo
     words[DESTINATION] = destination;
     words[TOTAL] = total;
     words[MOVED] = moved;
+    words
+}
+
+/// The same words with another destination and these sides fixed.
+pub fn fix(mut words: EngineWords, destination: u32, [read, write]: [u32; 2]) -> EngineWords {
+    words[DESTINATION] = destination;
+    words[KEY_HOLE_READ] = read;
+    words[KEY_HOLE_WRITE] = write;
     words
 }
 
@@ -45,6 +53,10 @@ pub fn most_memory(random: &mut Random, coverage: &mut Coverage) -> Result<(), S
         moving(last - 4000, last - 99, 100, 0),
         moving(last - 4000, last - 98, 100, 0),
         moving(last, 3, 1, 0),
+        // A queue in the last word, and one a byte further on.
+        fix(moving(5, 0, 4096, 2048), last - 127, [0, 1]),
+        fix(moving(last - 127, 0, 4096, 2048), 5, [1, 0]),
+        fix(moving(last - 126, 0, 4096, 2048), last - 126, [1, 1]),
         chain,
         spoiled,
         unlisted,
@@ -76,6 +88,12 @@ pub fn longest_transfer(_: &mut Random, coverage: &mut Coverage) -> Result<(), S
         desk.set_words(&moving(source, destination, 8_388_607, 0));
         desk.call(Call::Run { most: u16::MAX }, coverage)?;
     }
+    // With a fixed side: from a queue, to one within the source, and from one to another.
+    let (most, queue) = (8_388_480, 4_194_304);
+    for (destination, sides) in [(8_388_577, [1, 0]), (queue, [0, 1]), (queue, [1, 1])] {
+        desk.set_words(&fix(moving(128, 0, most, 0), destination, sides));
+        desk.call(Call::Run { most: u16::MAX }, coverage)?;
+    }
     desk.lend_windows(&[16_000_000, 1], false);
     desk.set_words(&moving(0, 8_388_608, 8_388_607, 0));
     desk.call(Call::Run { most: u16::MAX }, coverage)?;
@@ -89,13 +107,15 @@ pub fn longest_runs(random: &mut Random, coverage: &mut Coverage) -> Result<(), 
     let room = 600_000;
     let bytes = random.bytes(4096);
     for total in [65_535 * 8, 65_535 * 8 - 8, 65_536 * 8, 8_388_607] {
-        let mut desk = EngineDesk::new(&fresh(4, 2), room);
-        desk.put(0, &bytes);
-        let mut words = moving(0, 8, total, 0);
-        words[..2].copy_from_slice(&[4, 2]);
-        desk.set_words(&words);
-        for most in [u16::MAX, u16::MAX, 0, 1] {
-            desk.call(Call::Run { most }, coverage)?;
+        for sides in [[0, 0], [1, 0], [0, 1], [1, 1]] {
+            let mut desk = EngineDesk::new(&fresh(4, 2), room);
+            desk.put(0, &bytes);
+            let mut words = fix(moving(0, 0, total, 0), 8, sides);
+            words[..2].copy_from_slice(&[4, 2]);
+            desk.set_words(&words);
+            for most in [u16::MAX, u16::MAX, 0, 1] {
+                desk.call(Call::Run { most }, coverage)?;
+            }
         }
     }
     Ok(())

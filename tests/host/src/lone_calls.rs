@@ -7,6 +7,7 @@ use crate::engine_desk::{Call, EngineDesk, Given};
 use crate::spoil::KINDS;
 use crate::states::{self, well_formed};
 use crate::surroundings::{put_descriptor, windows};
+use shared::interface::ENGINE_WORDS;
 use shared::random::Random;
 use shared::settings;
 use shared::words::{EngineWords, BEATS, CURRENT, FETCH, PHASE, WIDTH};
@@ -39,7 +40,7 @@ fn each(
     let most = calls::most(random);
     let calls = [
         calls::read(random),
-        calls::write(random, memory),
+        calls::write(random, words, memory),
         Call::InterruptLine,
         Call::Step,
         Call::Run { most },
@@ -109,7 +110,7 @@ fn unlisted(
     Ok(())
 }
 
-/// Twenty numbers of any kind, or a sound engine with one word that is any.
+/// Numbers of any kind, or a sound engine with one word that is any.
 fn numbers(
     random: &mut Random,
     desk: &mut EngineDesk,
@@ -117,8 +118,8 @@ fn numbers(
 ) -> Result<(), String> {
     let memory = desk.memory().len() as u32;
     let mut words = well_formed(random, memory);
-    let from = random.below(20) as usize;
-    let to = if random.chance(50) { from + 1 } else { 20 };
+    let from = random.below(ENGINE_WORDS as u32) as usize;
+    let to = if random.chance(50) { from + 1 } else { ENGINE_WORDS };
     for word in &mut words[from..to] {
         *word = match random.below(3) {
             0 => random.below(33),

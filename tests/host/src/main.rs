@@ -18,6 +18,8 @@ mod observe;
 mod observe_clocks;
 mod observe_steps;
 mod plans;
+mod queue_edges;
+mod queues;
 mod reference;
 mod sessions;
 mod situations;

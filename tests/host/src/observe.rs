@@ -5,15 +5,18 @@ use independent::answer::settings_listed;
 use independent::cut::LONGEST as MOST_BYTES;
 use independent::engine::Engine;
 use independent::memory::LONGEST as MOST_MEMORY;
-use shared::registers::none_at;
+use shared::coverage::CDMACR_BITS;
+use shared::interface::Value;
+use shared::key_hole::{self, BY_BTT};
+use shared::registers::{none_at, CDMACR, CHAIN};
 
 use crate::coverage::{Coverage, Function};
 use crate::engine_desk::{Call, Given};
 use crate::observe_steps;
 use shared::words::{
     self, EngineWords, BEATS, CHAIN_MODE, COMPLETE_ENABLE, COMPLETE_INTERRUPT, COUNT_REGISTER,
-    CURRENT, DESTINATION, ERROR_BIT, ERROR_ENABLE, ERROR_INTERRUPT, IDLE, MOVE, MOVED, PHASE,
-    SOURCE, TAIL, TOTAL, WIDTH,
+    CURRENT, DESTINATION, DESTINATION_REGISTER, ERROR_BIT, ERROR_ENABLE, ERROR_INTERRUPT, IDLE,
+    MOVE, MOVED, PHASE, SOURCE, SOURCE_REGISTER, TAIL, TOTAL, WIDTH,
 };
 
 /// What was changed since the last step or run.
@@ -29,8 +32,8 @@ pub struct Changed {
 pub struct Seen<'a> {
     pub before: &'a EngineWords,
     pub after: &'a EngineWords,
-    /// The memory's length, and whether it was lent by a null pointer.
-    pub memory: usize,
+    /// Memory after the call, and whether it was lent by a null pointer.
+    pub memory: &'a [u8],
     pub null: bool,
     pub windows: &'a [u32],
     pub changed: Changed,
@@ -66,6 +69,9 @@ pub fn engine_call(seen: &Seen, coverage: &mut Coverage) {
             if let Some(engine) = taken(seen.before) {
                 coverage.read(offset, &engine);
             }
+            if let (CDMACR, Given::Read(Value { answer: 0, value })) = (offset, seen.given) {
+                coverage.bits(CDMACR_BITS, value);
+            }
         }
         Call::Write { offset, value } => write(seen, offset, value, answer, coverage),
         Call::InterruptLine => line(seen, coverage),
@@ -92,7 +98,7 @@ fn beside(seen: &Seen, answer: u32, coverage: &mut Coverage) {
             vec![settings, state, (3, none_at(offset)), (4, mode)]
         }
         Call::Step | Call::Run { .. } => {
-            let long = seen.memory > MOST_MEMORY;
+            let long = seen.memory.len() > MOST_MEMORY;
             vec![settings, (2, long), (6, seen.windows.len() / 2 > 16), state]
         }
     };
@@ -125,6 +131,9 @@ fn write(seen: &Seen, offset: u32, value: u32, answer: u32, coverage: &mut Cover
     };
     coverage.write(offset, &engine);
     coverage.see_if(offset > 0x30, "offset above 0x30");
+    if let Some(after) = words::engine(after) {
+        key_hole::see_write(&engine, offset, value, &after, coverage);
+    }
     let busy = before[PHASE] != IDLE;
     let cleared = |at: usize| before[at] == 1 && after[at] == 0;
     match offset {
@@ -136,7 +145,8 @@ fn write(seen: &Seen, offset: u32, value: u32, answer: u32, coverage: &mut Cover
             let enables = COMPLETE_ENABLE..=ERROR_ENABLE;
             coverage
                 .see_if(before[enables.clone()] != after[enables], "enables written while busy");
-            coverage.see_if(answer == 4, "change of mode while busy");
+            let mode = answer == 4 && u32::from(value & CHAIN != 0) != before[CHAIN_MODE];
+            coverage.see_if(mode, "change of mode while busy");
         }
         0x04 => {
             coverage.see_if(cleared(COMPLETE_INTERRUPT), "IOC_Irq cleared by a write");
@@ -149,9 +159,13 @@ fn write(seen: &Seen, offset: u32, value: u32, answer: u32, coverage: &mut Cover
         }
         0x28 if answer == 0 => {
             coverage.see_if(after[PHASE] == MOVE, "start of a simple move");
-            coverage.see_if(seen.became(ERROR_BIT), "4 by a BTT write of zero");
-            let above = seen.became(ERROR_BIT) && value != 0;
-            coverage.see_if(above, "BTT of zero with bits above 22");
+            let zero = value & MOST_BYTES == 0;
+            coverage.see_if(zero, "4 by a BTT write of zero");
+            coverage.see_if(zero && value != 0, "BTT of zero with bits above 22");
+            let refused = seen.became(ERROR_BIT) && !zero;
+            coverage.see_if(refused, "4 by a BTT write with a fixed side");
+            let copy = [before[SOURCE_REGISTER], before[DESTINATION_REGISTER], value];
+            key_hole::see_start(&engine, BY_BTT, copy, coverage);
         }
         _ => {}
     }

@@ -1,15 +1,21 @@
 // Counts what a step or a run did, and with which memory and windows.
 
+use independent::cut::LONGEST as MOST_BYTES;
+use independent::engine::Engine;
 use independent::memory::LONGEST as MOST_MEMORY;
 
 use crate::coverage::Coverage;
 use crate::engine_desk::{Call, Given};
 use crate::observe::Seen;
+use crate::queues::any_fixed;
 use crate::reference::pairs;
+use shared::bursts::Burst;
 use shared::interface::{Ran, Stepped};
+use shared::key_hole::{self, BY_DESCRIPTOR};
+use shared::key_hole_bursts::see_burst;
 use shared::words::{
-    BEATS, COMPLETE_INTERRUPT, CURRENT, DESTINATION, ERROR_BIT, ERROR_INTERRUPT, FETCH, IDLE, MOVE,
-    MOVED, PHASE, SOURCE, TAIL, TOTAL, WIDTH,
+    self, EngineWords, BEATS, COMPLETE_INTERRUPT, CURRENT, DESTINATION, ERROR_BIT, ERROR_INTERRUPT,
+    FETCH, IDLE, MOVE, PHASE, SOURCE, TAIL, WIDTH,
 };
 
 const TOP: u64 = 1 << 32;
@@ -24,7 +30,8 @@ const HALT_EVENT: u32 = 5;
 type Group = (u64, u64);
 
 pub fn lent(seen: &Seen, answer: u32, coverage: &mut Coverage) {
-    coverage.see_if(seen.memory == MOST_MEMORY + 1, "memory of 16,777,217 bytes");
+    let memory = seen.memory.len();
+    coverage.see_if(memory == MOST_MEMORY + 1, "memory of 16,777,217 bytes");
     let odd = !seen.windows.len().is_multiple_of(2);
     match seen.windows.len() / 2 {
         16 => {
@@ -41,8 +48,8 @@ pub fn lent(seen: &Seen, answer: u32, coverage: &mut Coverage) {
         return;
     }
     coverage.number_if_expected("number of windows that were taken", seen.windows.len() as u32 / 2);
-    coverage.see_if(seen.memory == MOST_MEMORY, "memory of 16,777,216 bytes");
-    coverage.see_if(seen.memory == 0 && !seen.null, "memory of no bytes");
+    coverage.see_if(memory == MOST_MEMORY, "memory of 16,777,216 bytes");
+    coverage.see_if(memory == 0 && !seen.null, "memory of no bytes");
     coverage.see_if(seen.null, "memory of no bytes at a null pointer");
     match (seen.call, seen.given) {
         (Call::Step, Given::Stepped(stepped)) => step(seen, &stepped, coverage),
@@ -68,6 +75,16 @@ fn run(seen: &Seen, most: u32, ran: &Ran, coverage: &mut Coverage) {
     if seen.became(ERROR_BIT) {
         coverage.number("error bit after a run", after[ERROR_BIT]);
     }
+    let (before, after) = (engine(before), engine(after));
+    key_hole::see_run(&before, &after, ran.steps, most, coverage);
+    let fixed = before.key_hole_read || before.key_hole_write;
+    let all = fixed && ran.steps == 65_535 && !idle;
+    coverage.see_if(all, "run stopped after 65,535 bursts with a fixed side");
+}
+
+/// The engine of words that were taken.
+fn engine(words: &EngineWords) -> Engine {
+    words::engine(words).expect("a step that was taken has an engine")
 }
 
 fn step(seen: &Seen, stepped: &Stepped, coverage: &mut Coverage) {
@@ -89,14 +106,17 @@ fn step(seen: &Seen, stepped: &Stepped, coverage: &mut Coverage) {
         coverage.see(error(before[PHASE], after[ERROR_BIT]));
     }
     match stepped.event {
-        FETCH_EVENT => coverage.see_if(after[PHASE] == 28, "count of zero in a descriptor"),
+        FETCH_EVENT => fetched(seen, coverage),
         MOVE_EVENT => {
-            if after[PHASE] == MOVE {
-                coverage.cut(before[WIDTH], before[BEATS]);
-                coverage.see("transfer of more than one burst");
+            coverage.see_if(after[PHASE] == MOVE, "transfer of more than one burst");
+            if !any_fixed(before) {
+                if after[PHASE] == MOVE {
+                    coverage.cut(before[WIDTH], before[BEATS]);
+                }
+                let apart = before[SOURCE].abs_diff(before[DESTINATION]);
+                let over = apart != 0 && apart < stepped.second;
+                coverage.see_if(over, "burst overlapping its source");
             }
-            let apart = before[SOURCE].abs_diff(before[DESTINATION]);
-            coverage.see_if(apart != 0 && apart < stepped.second, "burst overlapping its source");
         }
         FAULT_EVENT => coverage.number("bit of a fault", stepped.second),
         UPDATE_EVENT => {
@@ -113,6 +133,19 @@ fn step(seen: &Seen, stepped: &Stepped, coverage: &mut Coverage) {
         }
     }
     groups(seen, stepped, coverage);
+}
+
+/// A good fetch, after which memory is as it was.
+fn fetched(seen: &Seen, coverage: &mut Coverage) {
+    let word = |place: usize| {
+        let at = seen.before[CURRENT] as usize + place;
+        u32::from_le_bytes(seen.memory[at..at + 4].try_into().expect("four bytes"))
+    };
+    let copy = [word(0x08), word(0x10), word(0x18)];
+    coverage.see_if(copy[2] & MOST_BYTES == 0, "count of zero in a descriptor");
+    let refused = copy[2] & MOST_BYTES != 0 && seen.after[PHASE] == 28;
+    coverage.see_if(refused, "descriptor refused for a fixed side");
+    key_hole::see_start(&engine(seen.before), BY_DESCRIPTOR, copy, coverage);
 }
 
 /// The row of an error bit that a step in this phase set.
@@ -135,7 +168,7 @@ fn error(phase: u32, bit: u32) -> &'static str {
 fn groups(seen: &Seen, stepped: &Stepped, coverage: &mut Coverage) {
     let before = seen.before;
     let current = u64::from(before[CURRENT]);
-    let memory = seen.memory as u64;
+    let memory = seen.memory.len() as u64;
     let judged: Vec<Group> = match before[PHASE] {
         FETCH => {
             let end = current + 32;
@@ -143,17 +176,7 @@ fn groups(seen: &Seen, stepped: &Stepped, coverage: &mut Coverage) {
             coverage.see_if(current == TOP - 64, "descriptor in the last place of 2^32");
             vec![(current, end)]
         }
-        MOVE => {
-            let bytes = u64::from(burst(seen));
-            let from = u64::from(before[SOURCE]) + u64::from(before[MOVED]);
-            let to = u64::from(before[DESTINATION]) + u64::from(before[MOVED]);
-            coverage.see_if(from + bytes > TOP, "source that passes 2^32 in its burst");
-            coverage.see_if(to >= TOP - 4096, "destination in the last page of 2^32");
-            let past = |end: u64| from + bytes == memory + end || to + bytes == memory + end;
-            coverage.see_if(past(0) && stepped.event == MOVE_EVENT, "burst up to the memory's end");
-            coverage.see_if(past(1), "burst one byte past the memory's end");
-            vec![(from, from + bytes), (to, to + bytes)]
-        }
+        MOVE => moved(seen, stepped.event == MOVE_EVENT, coverage),
         _ => {
             let (start, end) = (current + 28, current + 32);
             coverage.see_if(start < memory && memory < end, "status word cut by the memory's end");
@@ -165,17 +188,26 @@ fn groups(seen: &Seen, stepped: &Stepped, coverage: &mut Coverage) {
     windows(seen, &judged, good, sick, coverage);
 }
 
-/// Bytes of the burst that a step in the phase move takes, counted from the definition.
-fn burst(seen: &Seen) -> u32 {
-    let before = seen.before;
-    let to = before[DESTINATION] + before[MOVED];
-    let left = before[TOTAL] - before[MOVED];
-    let words = before[WIDTH] * before[BEATS] - to % before[WIDTH];
-    left.min(words).min(4096 - to % 4096)
+/// The bytes that a burst judged, good or not.
+fn moved(seen: &Seen, good: bool, coverage: &mut Coverage) -> Vec<Group> {
+    let (engine, memory) = (engine(seen.before), seen.memory.len() as u64);
+    let burst = Burst::before(&engine).expect("a burst of an engine that moves");
+    let (from, to) = (&burst.source.straight, &burst.destination.straight);
+    if burst.has_fixed_side() {
+        see_burst(&engine, memory, &pairs(seen.windows), good, coverage);
+    } else {
+        coverage.see_if(from.end > TOP, "source that passes 2^32 in its burst");
+        coverage.see_if(to.start >= TOP - 4096, "destination in the last page of 2^32");
+        let past = |end: u64| from.end == memory + end || to.end == memory + end;
+        coverage.see_if(past(0) && good, "burst up to the memory's end");
+        coverage.see_if(past(1), "burst one byte past the memory's end");
+    }
+    let used = burst.source.used.iter().chain(&burst.destination.used);
+    used.map(|bytes| (bytes.start, bytes.end)).collect()
 }
 
 fn windows(seen: &Seen, judged: &[Group], good: bool, sick: bool, coverage: &mut Coverage) {
-    let memory = seen.memory as u64;
+    let memory = seen.memory.len() as u64;
     let windows = pairs(seen.windows);
     let windows: Vec<Group> = windows
         .iter()

@@ -6,6 +6,7 @@
 use crate::calls;
 use crate::coverage::Coverage;
 use crate::engine_desk::{Call, EngineDesk};
+use crate::queues;
 use crate::spoil::KINDS;
 use crate::states::{self, address};
 use crate::surroundings::{calm_descriptor, descriptor, put_descriptor, windows};
@@ -62,7 +63,7 @@ fn act(
             desk.call(Call::InterruptLine, coverage)?;
         }
         57..=62 => {
-            desk.call(calls::write(random, memory), coverage)?;
+            desk.call(calls::write(random, &words, memory), coverage)?;
         }
         63..=80 => start(random, desk, calm, coverage)?,
         81..=84 => {
@@ -99,26 +100,31 @@ pub fn start(
         return Ok(());
     }
     let enables = random.below(2) << 12 | random.below(2) << 14;
+    let [read, write] = queues::any_bits(random);
+    let control = enables | read << 4 | write << 5;
     if random.chance(40) {
-        desk.call(Call::Write { offset: CONTROL, value: enables }, coverage)?;
-        for offset in [0x18, 0x20, 0x28] {
+        desk.call(Call::Write { offset: CONTROL, value: control }, coverage)?;
+        let words = desk.words();
+        let offsets = [0x18, 0x20, 0x28];
+        let values = if calm {
             // Half the memory at most from its first half: that stays within.
-            let value = if calm {
-                random.between(1, memory / 2 + 1)
-            } else {
-                calls::value(random, offset, memory)
-            };
+            let copy = [(); 3].map(|()| random.between(1, memory / 2 + 1));
+            queues::fit(random, &words, copy)
+        } else {
+            offsets.map(|offset| calls::value(random, offset, &words, memory))
+        };
+        for (offset, value) in offsets.into_iter().zip(values) {
             desk.call(Call::Write { offset, value }, coverage)?;
         }
         return Ok(());
     }
-    desk.call(Call::Write { offset: CONTROL, value: enables | 1 << 3 }, coverage)?;
+    desk.call(Call::Write { offset: CONTROL, value: control | 1 << 3 }, coverage)?;
     let places: Vec<u32> =
         (0..random.between(1, 4)).map(|_| random.below(memory / 64 + 1) * 64).collect();
     for (at, place) in places.iter().enumerate() {
         let next = places.get(at + 1).copied().unwrap_or_else(|| address(random, memory));
         let make = if calm { calm_descriptor } else { descriptor };
-        let bytes = make(random, next & !63, memory);
+        let bytes = make(random, next & !63, &desk.words(), memory);
         desk.put(*place, &bytes);
     }
     // Without a new CURDESC a chain goes on at its next pointer.
@@ -156,7 +162,7 @@ fn spoiled(
     let kind = random.below(KINDS.len() as u32) as usize;
     (KINDS[kind].spoil)(&mut words, random);
     desk.set_words(&words);
-    let call = calls::any(random, desk.memory().len() as u32);
+    let call = calls::any(random, &words, desk.memory().len() as u32);
     desk.call(call, coverage)?;
     desk.set_words(&sound);
     Ok(())

@@ -1,10 +1,13 @@
 // The named rows of the coverage table. The observers say when each of them is met.
 
+use shared::{key_hole, key_hole_bursts};
+
 pub const SITUATIONS: &[(&str, &[&str])] = &[
     (
         "error bit of CDMASR set",
         &[
             "4 by a BTT write of zero",
+            "4 by a BTT write with a fixed side",
             "4 at an update",
             "5 in a simple move",
             "5 at an update",
@@ -105,12 +108,17 @@ pub const SITUATIONS: &[(&str, &[&str])] = &[
             "last of sixteen windows alone over a group",
         ],
     ),
+    ("key hole bits written", key_hole::WRITES),
+    ("bursts with a fixed side", key_hole_bursts::BURSTS),
+    ("bursts with a fixed side, off the multiples of W", key_hole_bursts::BURSTS_OFF_THE_MULTIPLES),
+    ("runs with a fixed side", key_hole::RUNS),
     (
         "chains",
         &[
             "chain that goes on to its next descriptor",
             "chain that ends at its tail",
             "count of zero in a descriptor",
+            "descriptor refused for a fixed side",
             "transfer of more than one burst",
         ],
     ),
@@ -125,12 +133,17 @@ pub const SITUATIONS: &[(&str, &[&str])] = &[
             "run that ends before its last step",
             "run of at most 65,535 steps that ends",
             "run stopped after 65,535 steps",
+            "run stopped after 65,535 bursts with a fixed side",
         ],
     ),
     (
         "runs joined",
         &[
             "joint in the midst of a transfer",
+            "joint before a burst, source fixed",
+            "joint before a burst, destination fixed",
+            "joint before a burst, both sides fixed",
+            "joint within a fixed source word",
             "joint before a good update",
             "joint between a failure and its update",
             "joint before a fetch",

@@ -6,7 +6,7 @@ use shared::random::Random;
 use shared::words::{
     EngineWords, CHAIN_MODE, COMPLETE_ENABLE, COMPLETE_INTERRUPT, COUNT_REGISTER, CURRENT,
     DESTINATION, ERROR_BIT, ERROR_BITS, ERROR_ENABLE, ERROR_INTERRUPT, FETCH, HELD_NEXT, IDLE,
-    MOVE, MOVED, NEXT, PHASE, SOURCE, TAIL, TOTAL, UPDATES,
+    KEY_HOLE_READ, KEY_HOLE_WRITE, MOVE, MOVED, NEXT, PHASE, SOURCE, TAIL, TOTAL, UPDATES,
 };
 
 pub struct Kind {
@@ -15,7 +15,7 @@ pub struct Kind {
     pub spoil: fn(&mut EngineWords, &mut Random),
 }
 
-pub const KINDS: [Kind; 29] = [
+pub const KINDS: [Kind; 31] = [
     Kind { name: "current misaligned", spoil: |words, random| misalign(words, random, CURRENT) },
     Kind { name: "tail misaligned", spoil: |words, random| misalign(words, random, TAIL) },
     Kind { name: "next misaligned", spoil: |words, random| misalign(words, random, NEXT) },
@@ -82,7 +82,7 @@ pub const KINDS: [Kind; 29] = [
         name: "total of 0, moved 0",
         spoil: |words, random| {
             moving(words, random);
-            words[TOTAL..].fill(0);
+            words[TOTAL..=MOVED].fill(0);
         },
     },
     Kind {
@@ -127,6 +127,14 @@ pub const KINDS: [Kind; 29] = [
     Kind {
         name: "Err_Irq above 1",
         spoil: |words, random| words[ERROR_INTERRUPT] = no_truth(random),
+    },
+    Kind {
+        name: "Key Hole Read above 1",
+        spoil: |words, random| words[KEY_HOLE_READ] = no_truth(random),
+    },
+    Kind {
+        name: "Key Hole Write above 1",
+        spoil: |words, random| words[KEY_HOLE_WRITE] = no_truth(random),
     },
     Kind {
         name: "number of no error bit",
@@ -197,7 +205,7 @@ fn unlike(random: &mut Random, near: u32, taken: fn(u32) -> bool) -> u32 {
 
 /// Makes the words those of an engine in another phase than move.
 pub fn wait(words: &mut EngineWords, phase: u32) {
-    words[SOURCE..].fill(0);
+    words[SOURCE..=MOVED].fill(0);
     words[PHASE] = phase;
     if phase != IDLE {
         words[CHAIN_MODE] = 1;

@@ -1,18 +1,21 @@
 // Well-formed engines of every phase, at the edges as often as within.
 
 use independent::cut::LONGEST as MOST_BYTES;
+use shared::interface::ENGINE_WORDS;
 use shared::random::Random;
 use shared::settings;
 use shared::words::{
     EngineWords, BEATS, CHAIN_MODE, COMPLETE_ENABLE, COMPLETE_INTERRUPT, COUNT_REGISTER, CURRENT,
     DESTINATION, DESTINATION_REGISTER, ERROR_BIT, ERROR_BITS, ERROR_ENABLE, ERROR_INTERRUPT, FETCH,
-    HELD_NEXT, IDLE, MOVE, MOVED, NEXT, PHASE, SOURCE, SOURCE_REGISTER, TAIL, TOTAL, UPDATES,
-    WIDTH,
+    HELD_NEXT, IDLE, KEY_HOLE_READ, KEY_HOLE_WRITE, MOVE, MOVED, NEXT, PHASE, SOURCE,
+    SOURCE_REGISTER, TAIL, TOTAL, UPDATES, WIDTH,
 };
+
+use crate::queues;
 
 /// A fresh engine with these settings.
 pub fn fresh(width: u32, beats: u32) -> EngineWords {
-    let mut words = [0; 20];
+    let mut words = [0; ENGINE_WORDS];
     words[WIDTH] = width;
     words[BEATS] = beats;
     words
@@ -42,9 +45,12 @@ pub fn in_phase(random: &mut Random, memory: u32, phase: u32) -> EngineWords {
     if random.chance(40) {
         words[TAIL] = words[CURRENT];
     }
-    words[SOURCE_REGISTER] = address(random, memory);
-    words[DESTINATION_REGISTER] = address(random, memory);
-    words[COUNT_REGISTER] = count(random) - random.below(2);
+    [words[KEY_HOLE_READ], words[KEY_HOLE_WRITE]] = queues::any_bits(random);
+    let copy = [address(random, memory), address(random, memory), count(random) - random.below(2)];
+    let [source, destination, total] = queues::fit(random, &words, copy);
+    words[SOURCE_REGISTER] = source;
+    words[DESTINATION_REGISTER] = destination;
+    words[COUNT_REGISTER] = total.min(MOST_BYTES);
     words[PHASE] = phase;
     words[CHAIN_MODE] = match phase {
         IDLE | MOVE => random.below(2),
@@ -53,7 +59,9 @@ pub fn in_phase(random: &mut Random, memory: u32, phase: u32) -> EngineWords {
     if phase == IDLE && random.chance(40) {
         words[ERROR_BIT] = random.pick(&ERROR_BITS);
     }
-    if phase == MOVE {
+    if phase == MOVE && queues::any_fixed(&words) {
+        queues::shape(random, &mut words, memory);
+    } else if phase == MOVE {
         words[TOTAL] = count(random);
         words[MOVED] = match random.below(3) {
             0 => 0,

@@ -2,9 +2,13 @@
 // descriptors.
 
 use crate::engine_desk::EngineDesk;
+use crate::queues;
 use crate::states::{address, count, pointer};
 use shared::random::Random;
-use shared::words::{EngineWords, CURRENT, DESTINATION, FETCH, IDLE, MOVE, MOVED, PHASE, SOURCE};
+use shared::words::{
+    EngineWords, CURRENT, DESTINATION, FETCH, IDLE, KEY_HOLE_READ, KEY_HOLE_WRITE, MOVE, MOVED,
+    PHASE, SOURCE, WIDTH,
+};
 
 /// Numbers of windows: any number of them, sometimes more than are allowed, sometimes one over.
 pub fn windows(random: &mut Random, words: &EngineWords, memory: u32) -> Vec<u32> {
@@ -36,12 +40,23 @@ pub fn windows(random: &mut Random, words: &EngineWords, memory: u32) -> Vec<u32
 fn near(random: &mut Random, words: &EngineWords) -> u32 {
     let at = match words[PHASE] {
         MOVE => {
-            words[if random.chance(50) { SOURCE } else { DESTINATION }].wrapping_add(words[MOVED])
+            let (at, fixed) =
+                random.pick(&[(SOURCE, KEY_HOLE_READ), (DESTINATION, KEY_HOLE_WRITE)]);
+            if words[fixed] == 1 && random.chance(75) {
+                return around_word(random, words[at], words[WIDTH]);
+            }
+            words[at].wrapping_add(words[MOVED])
         }
         FETCH | IDLE => words[CURRENT],
         _ => words[CURRENT].wrapping_add(28),
     };
     at.wrapping_add(if random.chance(50) { 0 } else { random.below(32) })
+}
+
+/// A byte of a fixed word, mostly its first or its last, or one next to it.
+fn around_word(random: &mut Random, start: u32, width: u32) -> u32 {
+    let within = random.below(width.max(1));
+    start.wrapping_add(random.pick(&[0, 0, width.wrapping_sub(1), within, width, u32::MAX]))
 }
 
 fn window(random: &mut Random, words: &EngineWords, memory: u32, harm: u32) -> [u32; 2] {
@@ -51,6 +66,7 @@ fn window(random: &mut Random, words: &EngineWords, memory: u32, harm: u32) -> [
             0 => [near, u32::MAX - random.below(3)],
             1 => [near.saturating_sub(random.below(70)), random.between(1, 140)],
             2 => [0, random.u32()],
+            3 => [near, 1],
             _ => [near, random.between(1, 8)],
         };
     }
@@ -68,8 +84,8 @@ fn window(random: &mut Random, words: &EngineWords, memory: u32, harm: u32) -> [
     }
 }
 
-/// The 32 bytes of a descriptor.
-pub fn descriptor(random: &mut Random, next: u32, memory: u32) -> Vec<u8> {
+/// The 32 bytes of a descriptor for an engine with these words.
+pub fn descriptor(random: &mut Random, next: u32, words: &EngineWords, memory: u32) -> Vec<u8> {
     let control = match random.below(12) {
         0 => 0,
         1 => random.u32() & !0x7f_ffff,
@@ -81,23 +97,30 @@ pub fn descriptor(random: &mut Random, next: u32, memory: u32) -> Vec<u8> {
         1 => random.u32() & !(1 << 31),
         _ => 0,
     };
-    let (source, destination) = (address(random, memory), address(random, memory));
-    lay_out(random, [next, source, destination, control, status])
+    let copy = [address(random, memory), address(random, memory), control];
+    let copy = queues::fit(random, words, copy);
+    lay_out(random, next, copy, status)
 }
 
 /// A descriptor that is fresh and stays within memory.
-pub fn calm_descriptor(random: &mut Random, next: u32, memory: u32) -> Vec<u8> {
+pub fn calm_descriptor(
+    random: &mut Random,
+    next: u32,
+    words: &EngineWords,
+    memory: u32,
+) -> Vec<u8> {
     let half = memory / 2 + 1;
-    let (source, destination) = (random.below(half), random.below(half));
     let control = random.between(1, half) | random.u32() & !0x7f_ffff;
+    let copy = [random.below(half), random.below(half), control];
+    let copy = queues::fit(random, words, copy);
     let status = random.u32() & !(1 << 31);
-    lay_out(random, [next, source, destination, control, status])
+    lay_out(random, next, copy, status)
 }
 
 /// The words in their places, with anything in the upper halves and in the bits of the next pointer
 /// that are dropped.
-fn lay_out(random: &mut Random, words: [u32; 5]) -> Vec<u8> {
-    let [next, source, destination, control, status] = words;
+fn lay_out(random: &mut Random, next: u32, copy: [u32; 3], status: u32) -> Vec<u8> {
+    let [source, destination, control] = copy;
     let next = next | random.below(64);
     let upper = [random.u32(), random.u32(), random.u32()];
     let words = [next, upper[0], source, upper[1], destination, upper[2], control, status];
@@ -108,6 +131,6 @@ fn lay_out(random: &mut Random, words: [u32; 5]) -> Vec<u8> {
 pub fn put_descriptor(random: &mut Random, desk: &mut EngineDesk, place: u32) {
     let memory = desk.memory().len() as u32;
     let next = pointer(random, memory);
-    let bytes = descriptor(random, next, memory);
+    let bytes = descriptor(random, next, &desk.words(), memory);
     desk.put(place, &bytes);
 }

@@ -58,6 +58,10 @@ pub struct Engine {
     pub btt: u32,
     pub phase: Phase,
     pub sg_mode: bool,
+    /// The source is fixed.
+    pub key_hole_read: bool,
+    /// The destination is fixed.
+    pub key_hole_write: bool,
     pub ioc_enable: bool,
     pub err_enable: bool,
     pub ioc_irq: bool,
@@ -67,6 +71,8 @@ pub struct Engine {
 // Bit numbers of CDMACR.
 const RESET: u32 = 2;
 const SG_MODE: u32 = 3;
+const KEY_HOLE_READ: u32 = 4;
+const KEY_HOLE_WRITE: u32 = 5;
 // Bit numbers of CDMASR.
 const IDLE: u32 = 1;
 const SG_INCLUDED: u32 = 3;
@@ -89,6 +95,8 @@ const BTT_BITS: u32 = cut::LONGEST;
 const POINTER_BITS: u32 = !63;
 const DESCRIPTOR: usize = 32;
 const STATUS: u32 = 0x1c;
+/// The most beats of a piece that goes to a fixed destination.
+const MOST_FIXED_BEATS: u32 = 16;
 /// Bytes of a full burst at width 4, beats 16.
 const FULL_BURST: usize = 64;
 
@@ -132,6 +140,8 @@ impl Engine {
             btt: 0,
             phase: Phase::Idle,
             sg_mode: false,
+            key_hole_read: false,
+            key_hole_write: false,
             ioc_enable: false,
             err_enable: false,
             ioc_irq: false,
@@ -208,6 +218,8 @@ impl Engine {
         TAIL_ENABLE
             | THRESHOLD
             | u32::from(self.sg_mode) << SG_MODE
+            | u32::from(self.key_hole_read) << KEY_HOLE_READ
+            | u32::from(self.key_hole_write) << KEY_HOLE_WRITE
             | u32::from(self.ioc_enable) << IOC
             | u32::from(self.err_enable) << ERR
     }
@@ -266,12 +278,19 @@ impl Engine {
                     return answer::DONE;
                 }
                 let sg_mode = bit(value, SG_MODE);
-                // Reading: a write that gets 4 leaves the enables too; one that keeps SGMode
-                // while busy sets them; changing SGMode clears no pointer.
-                if busy && sg_mode != self.sg_mode {
+                let key_hole_read = bit(value, KEY_HOLE_READ);
+                let key_hole_write = bit(value, KEY_HOLE_WRITE);
+                let changed = sg_mode != self.sg_mode
+                    || key_hole_read != self.key_hole_read
+                    || key_hole_write != self.key_hole_write;
+                // Reading: a write that gets 4 leaves the enables too; one that changes none of the
+                // three bits while busy sets them; changing SGMode clears no pointer.
+                if busy && changed {
                     return answer::BUSY;
                 }
                 self.sg_mode = sg_mode;
+                self.key_hole_read = key_hole_read;
+                self.key_hole_write = key_hole_write;
                 self.ioc_enable = bit(value, IOC);
                 self.err_enable = bit(value, ERR);
             }
@@ -326,15 +345,29 @@ impl Engine {
                 }
                 // Reading: zero is judged on the 23 bits kept, and a zero write stores 0.
                 self.btt = value & BTT_BITS;
-                if self.btt == 0 {
+                let (source, destination, total) = (self.sa, self.da, self.btt);
+                if total == 0 || !self.multiples(source, destination, total) {
                     self.halt(DMA_INT_ERR);
                 } else {
-                    let (source, destination, total) = (self.sa, self.da, self.btt);
                     self.phase = Phase::Move(Transfer { source, destination, total, moved: 0 });
                 }
             }
         }
         answer::DONE
+    }
+
+    /// Are the start of each fixed side and the count multiples of W?
+    /// Reading: the start of a side that is not fixed is not tested.
+    fn multiples(&self, source: u32, destination: u32, total: u32) -> bool {
+        let multiple = |number: u32| number.is_multiple_of(self.width);
+        (!self.key_hole_read || multiple(source) && multiple(total))
+            && (!self.key_hole_write || multiple(destination) && multiple(total))
+    }
+
+    /// Is source or destination fixed?
+    #[inline]
+    fn key_hole(&self) -> bool {
+        self.key_hole_read || self.key_hole_write
     }
 
     /// Idle and Err_Irq set with one error bit, current kept.
@@ -391,6 +424,9 @@ impl Engine {
             match self.phase {
                 Phase::Idle => break,
                 Phase::Fetch => tell(self.fetch(memory, windows)),
+                Phase::Move(transfer) if self.key_hole() => {
+                    tell(self.key_hole_burst(memory, windows, transfer));
+                }
                 Phase::Move(transfer) => {
                     let taken = self.good_bursts(memory, windows, transfer, n - steps, &mut tell);
                     // A burst that fails is left to a step of its own.
@@ -408,7 +444,7 @@ impl Engine {
     }
 
     /// Moves bursts up to the first that fails, the transfer's end or `most` of them, and gives
-    /// their number. How far source and destination are good is asked once, since a burst changes
+    /// their number; both sides increment. How far source and destination are good is asked once, since a burst changes
     /// bytes and not how they answer.
     #[inline]
     fn good_bursts(
@@ -464,6 +500,9 @@ impl Engine {
         match self.phase {
             Phase::Idle => Event::None,
             Phase::Fetch => self.fetch(memory, windows),
+            Phase::Move(transfer) if self.key_hole() => {
+                self.key_hole_burst(memory, windows, transfer)
+            }
             Phase::Move(transfer) => self.burst(memory, windows, transfer),
             Phase::Update(outcome) => self.update(memory, windows, outcome),
         }
@@ -492,22 +531,23 @@ impl Engine {
         Event::Halt { current, bit: failed }
     }
 
-    /// A good fetch: holds the next pointer, and goes to update (count 0) or to move.
+    /// A good fetch: holds the next pointer, and goes to update (count 0, or a fixed side off the
+    /// multiples of W) or to move.
     #[inline(always)]
     fn take(&mut self, descriptor: &[u8; DESCRIPTOR]) -> Event {
         self.held_next = word(descriptor, 0x00) & POINTER_BITS;
         let total = word(descriptor, 0x18) & BTT_BITS;
+        let (source, destination) = (word(descriptor, 0x08), word(descriptor, 0x10));
         // Reading: BTT 0 is DMAIntErr, shown in CDMASR by its update only.
-        self.phase = if total == 0 {
+        self.phase = if total == 0 || !self.multiples(source, destination, total) {
             Phase::Update(Outcome::Internal)
         } else {
-            let (source, destination) = (word(descriptor, 0x08), word(descriptor, 0x10));
             Phase::Move(Transfer { source, destination, total, moved: 0 })
         };
         Event::Fetch { current: self.current }
     }
 
-    /// Move of one burst. Reading: the cut follows the destination only, and a transfer whose
+    /// Move of one burst, both sides incrementing. Reading: the cut follows the destination only, and a transfer whose
     /// destination + total passes 2^32 has its burst at the top end by decode error.
     #[inline(always)]
     fn burst(&mut self, memory: &mut [u8], windows: &[Window], transfer: Transfer) -> Event {
@@ -515,23 +555,69 @@ impl Engine {
         let from = source + moved;
         let to = destination + moved;
         let bytes = cut::first_burst(self.width, self.beats, to, total - moved);
-        let (outcome, failed) = match memory::verdict(memory.len(), windows, [from, to], bytes) {
+        match memory::verdict(memory.len(), windows, [from, to], bytes) {
             Verdict::Okay => {
                 copy(memory, from, to, bytes);
                 self.phase = self.moved_to(Transfer { moved: moved + bytes, ..transfer });
-                return Event::Move { start: to, bytes };
+                Event::Move { start: to, bytes }
             }
-            Verdict::Slave => (Outcome::Slave, DMA_SLV_ERR),
-            Verdict::Decode => (Outcome::Decode, DMA_DEC_ERR),
+            Verdict::Slave => self.fault(to, Outcome::Slave, DMA_SLV_ERR),
+            Verdict::Decode => self.fault(to, Outcome::Decode, DMA_DEC_ERR),
+        }
+    }
+
+    /// Move of one burst with a fixed side, byte by byte.
+    fn key_hole_burst(
+        &mut self,
+        memory: &mut [u8],
+        windows: &[Window],
+        transfer: Transfer,
+    ) -> Event {
+        let Transfer { source, destination, total, moved } = transfer;
+        let (width, beats, left) = (self.width, self.beats, total - moved);
+        // Reading: pieces to a fixed destination know no page; with a fixed source alone the cut
+        // follows the destination as ever, with all its beats.
+        let (start, bytes) = if self.key_hole_write {
+            (destination, left.min(width * beats.min(MOST_FIXED_BEATS)))
+        } else {
+            let start = destination + moved;
+            (start, cut::first_burst(width, beats, start, left))
         };
-        // Reading: bursts moved before stay written; a chain transfer that failed stays busy
-        // without an error bit until its update; a failing simple move is the event fault alone.
+        // Byte k of the transfer, k counted from its start and not from the burst's.
+        let places = |start: u32, fixed: bool| -> Vec<u64> {
+            (moved..moved + bytes)
+                .map(|k| u64::from(start) + u64::from(if fixed { k % width } else { k }))
+                .collect()
+        };
+        let from = places(source, self.key_hole_read);
+        let to = places(destination, self.key_hole_write);
+        // Reading: judged are the bytes that the burst uses, of a fixed word a part if it is short.
+        match memory::verdict_of_bytes(memory.len(), windows, from.iter().chain(&to)) {
+            Verdict::Okay => {
+                let burst: Vec<u8> = from.iter().map(|&at| memory[at as usize]).collect();
+                // In rising k: of the bytes for one place the last one stays.
+                for (&at, &byte) in to.iter().zip(&burst) {
+                    memory[at as usize] = byte;
+                }
+                self.phase = self.moved_to(Transfer { moved: moved + bytes, ..transfer });
+                Event::Move { start, bytes }
+            }
+            Verdict::Slave => self.fault(start, Outcome::Slave, DMA_SLV_ERR),
+            Verdict::Decode => self.fault(start, Outcome::Decode, DMA_DEC_ERR),
+        }
+    }
+
+    /// A burst that failed. Reading: bursts moved before stay written; a chain transfer that failed
+    /// stays busy without an error bit until its update; a failing simple move is the event fault
+    /// alone.
+    #[inline]
+    fn fault(&mut self, destination: u32, outcome: Outcome, bit: u32) -> Event {
         if self.sg_mode {
             self.phase = Phase::Update(outcome);
         } else {
-            self.halt(failed);
+            self.halt(bit);
         }
-        Event::Fault { destination: to, bit: failed }
+        Event::Fault { destination, bit }
     }
 
     /// Update of the status word. Reading: judges 4 bytes and writes the whole word.

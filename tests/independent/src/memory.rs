@@ -63,6 +63,38 @@ fn any_meets<const GROUPS: usize>(windows: &[Window], starts: [u32; GROUPS], cou
     any
 }
 
+/// How one byte answers, in a memory of `length` bytes. Addresses never wrap, so its place may be
+/// past 2^32.
+fn verdict_of_byte(length: usize, windows: &[Window], at: u64) -> Verdict {
+    if at >= length as u64 {
+        return Verdict::Decode;
+    }
+    for &(start, count) in windows {
+        let (start, count) = (u64::from(start), u64::from(count));
+        if start <= at && at < start + count {
+            return Verdict::Slave;
+        }
+    }
+    Verdict::Okay
+}
+
+/// Judges bytes together that need not follow each other.
+pub fn verdict_of_bytes<'a>(
+    length: usize,
+    windows: &[Window],
+    places: impl IntoIterator<Item = &'a u64>,
+) -> Verdict {
+    let mut together = Verdict::Okay;
+    for &at in places {
+        match verdict_of_byte(length, windows, at) {
+            Verdict::Decode => return Verdict::Decode,
+            Verdict::Slave => together = Verdict::Slave,
+            Verdict::Okay => {}
+        }
+    }
+    together
+}
+
 /// How many of the `most` bytes from `start` on answer OKAY, up to the first that does not.
 #[inline]
 pub fn good_bytes(length: usize, windows: &[Window], start: u32, most: u32) -> u32 {

@@ -128,9 +128,9 @@ fn answer_3_for_every_other_offset() {
 
 #[test]
 fn control_bits_kept() {
-    for bits in 0..8u32 {
-        let value = (bits & 1) << 3 | (bits >> 1 & 1) << 12 | (bits >> 2 & 1) << 14;
-        for extra in [0, !(1 << 2 | 1 << 3 | 1 << 12 | 1 << 14)] {
+    for bits in 0..32u32 {
+        let value = (bits & 7) << 3 | (bits >> 3 & 1) << 12 | (bits >> 4 & 1) << 14;
+        for extra in [0, !(1 << 2 | 7 << 3 | 1 << 12 | 1 << 14)] {
             let mut engine = fresh();
             assert_eq!(engine.write(CONTROL, value | extra), 0);
             assert_eq!(engine.read(CONTROL), (0, 0x0001_0002 | value));
@@ -266,14 +266,19 @@ fn write_answers_over_all_conditions() {
                     && (sg_mode || matches!(phase, Phase::Idle | Phase::Move(_)));
                 assert_eq!(engine.well_formed(), well);
                 for offset in 0..=44 {
-                    for value in [0, 4, 8, 64, 0x0080_0000, u32::MAX] {
+                    for value in [0, 4, 8, 16, 32, 56, 64, 0x0080_0000, u32::MAX] {
                         let expected = if !well {
                             9
                         } else if offset > 40 || offset % 4 != 0 {
                             3
                         } else {
                             match offset {
-                                0 if value & 4 == 0 && busy && (value & 8 != 0) != sg_mode => 4,
+                                0 if value & 4 == 0
+                                    && busy
+                                    && value & 56 != if sg_mode { 8 } else { 0 } =>
+                                {
+                                    4
+                                }
                                 8 | 16 | 24 | 32 | 40 if in_error => 5,
                                 8 | 24 | 32 if busy => 4,
                                 16 if !sg_mode => 4,
@@ -733,6 +738,13 @@ fn group(start: u64, count: u64) -> Vec<u64> {
     (start..start + count).collect()
 }
 
+/// The places of bytes `moved` and on of a transfer whose side is fixed: round and round its word.
+fn fixed_group(start: u32, width: u32, moved: u32, bytes: u32) -> Vec<u64> {
+    let first = u64::from(start);
+    let word = first..first + u64::from(width);
+    word.cycle().skip(moved as usize).take(bytes as usize).collect()
+}
+
 /// Halt with the CDMASR bit of the number given.
 fn halted(engine: &Engine, bit: u32) -> Engine {
     let mut after = engine.clone();
@@ -761,24 +773,33 @@ fn slow_step(engine: &Engine, memory: &[u8], windows: &[Window]) -> (Engine, Vec
             let mut after = engine.clone();
             after.held_next = word(memory, current) / 64 * 64;
             let total = word(memory, current + 0x18) % 0x80_0000;
+            let source = word(memory, current + 0x08);
+            let destination = word(memory, current + 0x10);
+            let off = |start: u32| start % engine.width + total % engine.width != 0;
+            let fixed_off =
+                engine.key_hole_read && off(source) || engine.key_hole_write && off(destination);
             after.phase = match total {
                 0 => Phase::Update(Outcome::Internal),
-                _ => Phase::Move(Transfer {
-                    source: word(memory, current + 0x08),
-                    destination: word(memory, current + 0x10),
-                    total,
-                    moved: 0,
-                }),
+                _ if fixed_off => Phase::Update(Outcome::Internal),
+                _ => Phase::Move(Transfer { source, destination, total, moved: 0 }),
             };
             (after, same, Event::Fetch { current })
         }
         Phase::Move(Transfer { source, destination, total, moved }) => {
-            let start = destination + moved;
-            // A burst never leaves its page: a cut of two pages is enough.
-            let bytes =
-                brute_plan(engine.width, engine.beats, start, (total - moved).min(5000))[0].1;
-            let sources = group(u64::from(source) + u64::from(moved), u64::from(bytes));
-            let targets = group(u64::from(start), u64::from(bytes));
+            let (start, bytes) = if engine.key_hole_write {
+                (destination, (engine.width * engine.beats.min(16)).min(total - moved))
+            } else {
+                let start = destination + moved;
+                // A burst never leaves its page: a cut of two pages is enough.
+                let left = (total - moved).min(5000);
+                (start, brute_plan(engine.width, engine.beats, start, left)[0].1)
+            };
+            let side = |start: u32, fixed: bool| match fixed {
+                true => fixed_group(start, engine.width, moved, bytes),
+                false => group(u64::from(start) + u64::from(moved), u64::from(bytes)),
+            };
+            let sources = side(source, engine.key_hole_read);
+            let targets = side(destination, engine.key_hole_write);
             let both: Vec<u64> = sources.iter().chain(&targets).copied().collect();
             let bad = byte_by_byte(memory, windows, &both);
             if bad != 0 {

@@ -433,7 +433,7 @@ fn some_trace(random: &mut Random) -> Trace {
                 windows += 1;
                 trace.sw(sequence, random.below(33000), random.below(20))
             }
-            5 => trace.wr(sequence, 0, random.pick(&[0, 8, 8, 0x5000, 0x5008, 4])),
+            5 => trace.wr(sequence, 0, random.pick(&[0, 8, 8, 0x5000, 0x5008, 4, 16, 32, 56])),
             6 => trace.wr(sequence, 4, random.pick(&[1 << 12, 1 << 14, u32::MAX])),
             7 => trace.wr(sequence, 8, random.below(8) * 64),
             8 => trace.wr(sequence, 16, random.below(8) * 64),
@@ -443,19 +443,22 @@ fn some_trace(random: &mut Random) -> Trace {
             12 => trace.rd(sequence, random.below(46) as u16),
             13 => trace.st(sequence, random.below(30) as u16),
             14 => {
-                // From a reset into a chain, or now and then into a simple move.
-                sequence += 4;
+                // From a reset into a chain, or now and then into a simple move, sides fixed or not.
+                sequence += 5;
+                let fixed = random.pick(&[0, 0, 16, 32, 48]);
                 if random.one_in(3) {
+                    let kept = if random.one_in(2) { !127 } else { u32::MAX };
                     trace
-                        .wr(sequence - 4, 0, 4)
-                        .wr(sequence - 3, 24, random.below(33000))
-                        .wr(sequence - 2, 32, random.below(33000))
-                        .wr(sequence - 1, 40, random.below(400))
+                        .wr(sequence - 5, 0, 4)
+                        .wr(sequence - 4, 0, fixed)
+                        .wr(sequence - 3, 24, random.below(33000) & kept)
+                        .wr(sequence - 2, 32, random.below(33000) & kept)
+                        .wr(sequence - 1, 40, random.below(400) & kept)
                         .st(sequence, random.below(8) as u16)
                 } else {
                     trace
                         .wr(sequence - 4, 0, 4)
-                        .wr(sequence - 3, 0, 8)
+                        .wr(sequence - 3, 0, 8 | fixed)
                         .wr(sequence - 2, 8, random.below(8) * 64)
                         .wr(sequence - 1, 16, random.below(8) * 64)
                         .st(sequence, random.below(30) as u16)

@@ -1,11 +1,12 @@
-// What both coverage tables count: numbers in groups, named situations, cut bursts by settings,
-// and register accesses by state. A row that stays at zero means that a test did not reach
+// What both coverage tables count: numbers in groups, named situations, cut bursts and pieces by
+// settings, register accesses by state, and starts of transfers with a fixed side. A row that stays at zero means that a test did not reach
 // something, and makes it fail.
 
 use std::collections::BTreeMap;
 
 use independent::engine::Engine;
 
+use crate::key_hole::{STARTERS, STARTS};
 use crate::registers::{self, REGISTERS, STATES};
 use crate::settings::{self, BEATS, WIDTHS};
 use crate::table::{print_named, print_row, print_table};
@@ -16,13 +17,23 @@ pub type BySettings = [[u64; 8]; 6];
 /// Groups of numbers, each with those it expects.
 pub type Groups = [(&'static str, &'static [u32])];
 
+/// Bits that a register keeps: the groups of those read as 0 and as 1, and their numbers.
+pub type Bits = ([&'static str; 2], &'static [u32]);
+
+pub const CDMACR_BITS: Bits =
+    (["CDMACR bit read as 0", "CDMACR bit read as 1"], &[3, 4, 5, 12, 14]);
+pub const CDMASR_BITS: Bits =
+    (["CDMASR bit read as 0", "CDMASR bit read as 1"], &[1, 4, 5, 6, 8, 9, 10, 12, 14]);
+
 #[derive(Clone)]
 pub struct Counts {
     numbers: BTreeMap<(&'static str, u32), u64>,
     named: BTreeMap<&'static str, u64>,
     cuts: BySettings,
+    pieces: BySettings,
     writes: [[u64; 7]; 12],
     reads: [[u64; 7]; 12],
+    starts: [[u64; 2]; STARTS.len()],
 }
 
 impl Counts {
@@ -34,14 +45,23 @@ impl Counts {
             numbers: numbers.map(|row| (row, 0)).collect(),
             named: names.into_iter().map(|name| (name, 0)).collect(),
             cuts: [[0; 8]; 6],
+            pieces: [[0; 8]; 6],
             writes: [[0; 7]; 12],
             reads: [[0; 7]; 12],
+            starts: [[0; 2]; STARTS.len()],
         }
     }
 
     /// Counts `number` in a group.
     pub fn number(&mut self, group: &'static str, number: u32) {
         *self.numbers.entry((group, number)).or_insert(0) += 1;
+    }
+
+    /// Counts the bits of a register that was read.
+    pub fn bits(&mut self, (groups, bits): Bits, value: u32) {
+        for &bit in bits {
+            self.number(groups[(value >> bit & 1) as usize], bit);
+        }
     }
 
     /// Counts a number of a group that expects only some of those that come.
@@ -62,11 +82,23 @@ impl Counts {
         }
     }
 
-    /// Counts a burst that ended before its transfer.
+    /// Counts a burst that ended before its transfer, both sides incrementing.
     pub fn cut(&mut self, width: u32, beats: u32) {
         if let Some((row, column)) = settings::place(width, beats) {
             self.cuts[row][column] += 1;
         }
+    }
+
+    /// Counts a piece to a fixed destination that ended before its transfer.
+    pub fn piece(&mut self, width: u32, beats: u32) {
+        if let Some((row, column)) = settings::place(width, beats) {
+            self.pieces[row][column] += 1;
+        }
+    }
+
+    /// Counts a start of a transfer with a fixed side.
+    pub fn start(&mut self, row: usize, starter: usize) {
+        self.starts[row][starter] += 1;
     }
 
     pub fn write(&mut self, offset: u32, engine: &Engine) {
@@ -81,8 +113,10 @@ impl Counts {
         add_rows(&mut self.numbers, &other.numbers);
         add_rows(&mut self.named, &other.named);
         add_table(&mut self.cuts, &other.cuts);
+        add_table(&mut self.pieces, &other.pieces);
         add_table(&mut self.writes, &other.writes);
         add_table(&mut self.reads, &other.reads);
+        add_table(&mut self.starts, &other.starts);
     }
 
     /// Prints a row for each group; this and the others give the number of zeros.
@@ -106,9 +140,12 @@ impl Counts {
 
     pub fn print_tables(&self) -> usize {
         let (states, registers) = (STATES.map(String::from), REGISTERS.map(String::from));
+        let (starters, starts) = (STARTERS.map(String::from), STARTS.map(String::from));
         print_by_settings("bursts that end before their transfer", &self.cuts)
+            + print_by_settings("pieces that end before their transfer", &self.pieces)
             + print_table("register writes", &states, &registers, &self.writes)
             + print_table("register reads", &states, &registers, &self.reads)
+            + print_table("starts with a fixed side", &starters, &starts, &self.starts)
     }
 }
 

@@ -14,6 +14,17 @@ pub const BTT: u32 = 0x28;
 // Bits of CDMACR.
 pub const RESET: u32 = 1 << 2;
 pub const CHAIN: u32 = 1 << 3;
+pub const KEY_HOLE_READ: u32 = 1 << 4;
+pub const KEY_HOLE_WRITE: u32 = 1 << 5;
+pub const KEY_HOLE: u32 = KEY_HOLE_READ | KEY_HOLE_WRITE;
+
+/// Bits of CDMACR with which an engine writes itself: its mode and its fixed sides, no enables.
+pub fn kept(engine: &Engine) -> u32 {
+    let bit = |set: bool, bit: u32| if set { bit } else { 0 };
+    bit(engine.sg_mode, CHAIN)
+        | bit(engine.key_hole_read, KEY_HOLE_READ)
+        | bit(engine.key_hole_write, KEY_HOLE_WRITE)
+}
 
 /// Columns of a register table.
 pub const STATES: [&str; 7] = [

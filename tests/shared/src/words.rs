@@ -30,9 +30,18 @@ pub const SOURCE: usize = 16;
 pub const DESTINATION: usize = 17;
 pub const TOTAL: usize = 18;
 pub const MOVED: usize = 19;
+pub const KEY_HOLE_READ: usize = 20;
+pub const KEY_HOLE_WRITE: usize = 21;
 
-pub const TRUTHS: [usize; 5] =
-    [CHAIN_MODE, COMPLETE_ENABLE, ERROR_ENABLE, COMPLETE_INTERRUPT, ERROR_INTERRUPT];
+pub const TRUTHS: [usize; 7] = [
+    CHAIN_MODE,
+    COMPLETE_ENABLE,
+    ERROR_ENABLE,
+    COMPLETE_INTERRUPT,
+    ERROR_INTERRUPT,
+    KEY_HOLE_READ,
+    KEY_HOLE_WRITE,
+];
 pub const ERROR_BITS: [u32; 6] = [4, 5, 6, 8, 9, 10];
 
 // Numbers of the phases.
@@ -68,7 +77,7 @@ pub fn engine(words: &EngineWords) -> Option<Engine> {
         31 => Phase::Update(Outcome::Complete),
         _ => return None,
     };
-    if words[PHASE] != MOVE && words[SOURCE..].iter().any(|word| *word != 0) {
+    if words[PHASE] != MOVE && words[SOURCE..=MOVED].iter().any(|word| *word != 0) {
         return None;
     }
     let truth = |at: usize| words[at] == 1;
@@ -77,6 +86,8 @@ pub fn engine(words: &EngineWords) -> Option<Engine> {
         beats: words[BEATS],
         errors: if error == 0 { 0 } else { 1 << error },
         sg_mode: truth(CHAIN_MODE),
+        key_hole_read: truth(KEY_HOLE_READ),
+        key_hole_write: truth(KEY_HOLE_WRITE),
         ioc_enable: truth(COMPLETE_ENABLE),
         err_enable: truth(ERROR_ENABLE),
         ioc_irq: truth(COMPLETE_INTERRUPT),
@@ -129,6 +140,8 @@ pub fn of_engine(engine: &Engine) -> EngineWords {
         transfer[1],
         transfer[2],
         transfer[3],
+        u32::from(engine.key_hole_read),
+        u32::from(engine.key_hole_write),
     ]
 }
 

@@ -4,8 +4,8 @@ use borrow.Author.Needs.{needs}
 use Rattle.spelling.proofs.moves.Statement.{statement}
 use Rattle.spelling.proofs.moves.Tie as tie
 
-twenty-requires : tie.Need-twenty-requires
-twenty-requires c κs = search needs
+whole-requires : tie.Need-whole-requires
+whole-requires c κs = search needs
 
 truths-requires : tie.Need-truths-requires
 truths-requires c κs = search needs
@@ -24,9 +24,9 @@ returns c =
     let s = c .before in
     let a = s .before in
     let t = a .before in
-    ap₂ _&&_ (ap₂ _&&_ (ap₂ _&&_ (ap₂ _&&_ (t .before .twenty .ensures) (t .truths .ensures)) (a .aligned .ensures)) (s .settled .ensures)) (c .fits2 .ensures)
+    ap₂ _&&_ (ap₂ _&&_ (ap₂ _&&_ (ap₂ _&&_ (t .before .whole .ensures) (t .truths .ensures)) (a .aligned .ensures)) (s .settled .ensures)) (c .fits2 .ensures)
 
 pub moves-spec : {M : Type 1} → statement M
 moves-spec =
     tie.close
-    (tie.spec twenty-requires truths-requires aligned-requires settled-requires fits-requires returns)
+    (tie.spec whole-requires truths-requires aligned-requires settled-requires fits-requires returns)

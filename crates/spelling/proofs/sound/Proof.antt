@@ -14,7 +14,7 @@ returns c =
     let aligned = c .before .before in
     let truths = aligned .before in
     ap₂ _&&_
-    (ap (λ (t : Bool). t && leb (word w 14) mostBytes) (ap₂ _&&_ (ap₂ _&&_ (truths .before .twenty .ensures) (truths .truths .ensures)) (aligned .aligned .ensures)))
+    (ap (λ (t : Bool). t && leb (word w 14) mostBytes) (ap₂ _&&_ (ap₂ _&&_ (truths .before .whole .ensures) (truths .truths .ensures)) (aligned .aligned .ensures)))
     (c .phase-sound .ensures)
 
 pub sound-spec : {M : Type 1} → statement M

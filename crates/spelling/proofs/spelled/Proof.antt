@@ -12,7 +12,7 @@ returns c =
     let w = now (c .before .before .before .before .before .before .before .before .args .words) in
     let bit = c .before .before in
     let truths = bit .before .before in
-    ap₂ _&&_ (ap₂ _&&_ (ap₂ _&&_ (ap₂ _&&_ (truths .before .twenty .ensures) (truths .truths .ensures)) (bit .bit-listed .ensures)) (c .before .phase-listed .ensures))
+    ap₂ _&&_ (ap₂ _&&_ (ap₂ _&&_ (ap₂ _&&_ (truths .before .whole .ensures) (truths .truths .ensures)) (bit .bit-listed .ensures)) (c .before .phase-listed .ensures))
     (ap (λ (t : Bool). eqb (word w 15) 2 || t) (c .still .ensures))
 
 pub spelled-spec : {M : Type 1} → statement M

@@ -134,6 +134,8 @@ fn address(random: &mut Random, near: u32) -> u32 {
 pub fn some_engine(random: &mut Random, near: u32) -> Engine {
     let mut engine = Engine::fresh(random.pick(&WIDTHS), random.pick(&BEATS));
     engine.sg_mode = random.one_in(2);
+    engine.key_hole_read = random.one_in(4);
+    engine.key_hole_write = random.one_in(4);
     engine.ioc_irq = random.one_in(2);
     engine.err_irq = random.one_in(2);
     engine.ioc_enable = random.one_in(2);
@@ -166,16 +168,19 @@ pub fn some_engine(random: &mut Random, near: u32) -> Engine {
     engine
 }
 
-/// Memory with a descriptor at every other of its places, some of them stale or of count 0.
+/// Memory with a descriptor at every other of its places, some of them stale or of count 0, and
+/// some with source, destination or count at a multiple of every width.
 pub fn some_memory(random: &mut Random, length: u32) -> Vec<u8> {
     let mut memory = random.bytes(length);
     for at in (0..length.saturating_sub(31)).step_by(64) {
         if random.one_in(2) {
+            let all = random.one_in(2);
+            let kept = [(); 3].map(|()| if all || random.one_in(2) { !127 } else { u32::MAX });
             let bytes = descriptor(
                 address(random, length),
-                address(random, length),
-                address(random, length),
-                if random.one_in(4) { 0xff80_0000 } else { random.below(400) },
+                address(random, length) & kept[0],
+                address(random, length) & kept[1],
+                if random.one_in(4) { 0xff80_0000 } else { random.below(400) & kept[2] },
                 if random.one_in(4) { random.u32() } else { 0 },
             );
             put(&mut memory, at, &bytes);

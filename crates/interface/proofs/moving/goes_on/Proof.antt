@@ -1,4 +1,4 @@
-use mathlib.Core.Path.{ap, ap₂, _∙_}
+use mathlib.Core.Path.{refl, ap, ap₂, _∙_}
 use mathlib.Core.Bool.{Bool, _&&_}
 use lib.Dec.{leb}
 use Rattle.kit.specs.Limits.{mostMemory, mostWindows}
@@ -19,9 +19,10 @@ moves-requires c κs = search needs
 
 returns : tie.Need-returns
 returns c =
-    let a = c .before .before .before .args in
-    let legal = c .before .legal .ensures ∙ ap (λ (s : Settings). legalOf s) (c .before .before .settings .ensures) in
-    ap₂ _&&_ (ap (λ (t : Bool). t && leb (a .size) mostMemory && leb (a .windows) mostWindows) legal) (c .moves .ensures)
+    let m = c .before .before in
+    let a = m .before .before .before .args in
+    let legal = m .before .legal .ensures ∙ ap (λ (s : Settings). legalOf s) (m .before .before .settings .ensures) in
+    ap₂ _&&_ (ap₂ _&&_ (ap₂ _&&_ (ap (λ (t : Bool). t && leb (a .size) mostMemory && leb (a .windows) mostWindows) legal) (m .moves .ensures)) refl) refl
 
 pub goes-on-spec : {M : Type 1} → statement M
-goes-on-spec = tie.close (tie.spec settings-requires legal-requires moves-requires returns)
+goes-on-spec = tie.close (tie.spec settings-requires legal-requires moves-requires (λ c. search needs) (λ c. search needs) returns)

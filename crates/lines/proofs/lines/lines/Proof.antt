@@ -76,7 +76,7 @@ advance-requires : tie.Need-advance-requires Inv-loop μ-loop
 advance-requires c κs =
     let go = sym (c .before .before .before .stops .ensures) ∙ c .before .before .if1 .left in
     let p = telling-acceptable (c .before .before .before .before .before .loop .inv .0) go in
-    (p .legal, p .well)
+    (p .legal, (p .well, p .small))
 
 event-line-requires : tie.Need-event-line-requires Inv-loop μ-loop
 event-line-requires c κs = search needs

@@ -1,6 +1,5 @@
 -- Bursts in a row meet their contract. Invariant: those moved so far are steps of every engine in the transfer's midst.
-use mathlib.Core.Path.{_≡_, refl, sym, _∙_}
-use Prim.Native.Nat.{_+_, _-_, _≤_, _<_}
+use Prim.Native.Nat.{_-_, _≤_, _<_}
 use native.Mathlib.Omega.{arith}
 use denote.Ref.{now}
 use lib.ListN.{length}
@@ -11,13 +10,13 @@ use Rattle.memory.proofs.GoodBytes.{good-less}
 use Rattle.state.proofs.WellFormed.{transfer-fits}
 use Rattle.steps.specs.Step.{readsAt}
 use Rattle.moves.specs.Moves.{movedTo}
-use Rattle.moves.proofs.Gliding.{Gliding, gliding-begin, Turn, turn, gliding-step}
+use Rattle.moves.proofs.Incrementing.{Plain, plain-begin, PlainTurn, plain-turn, plain-step}
 use Rattle.moves.proofs.glide.glide.Statement.{statement}
 use Rattle.moves.proofs.glide.glide.Tie as tie
 
 abbrev Inv-loop : tie.InvT-loop
 Inv-loop settings transfer memory₀ windows most moved₀ limit start words₀ last₀ steps₀ memory moved words last steps =
-    (steps ≤ most) × Gliding settings transfer (windowsOf windows) memory₀ memory moved words last steps
+    (steps ≤ most) × Plain settings transfer (windowsOf windows) memory₀ memory moved words last steps
 
 abbrev μ-loop : tie.MeasureT-loop
 μ-loop settings transfer memory₀ windows most moved₀ limit start words₀ last₀ steps₀ memory moved words last steps = most - steps
@@ -48,16 +47,16 @@ words-left-requires c κs =
 loop-holds : tie.Need-loop-holds Inv-loop μ-loop
 loop-holds c =
     let start = c .before .before .before .before .before in
-    (omega arith, gliding-begin (start .args .settings) (start .args .transfer) _ _ (start .pre .1 .0) _ (c .words-left .ensures))
+    (omega arith, plain-begin (start .args .settings) (start .args .transfer) _ _ (start .pre .1 .0) _ (c .words-left .ensures))
 
 -- the transfer is not at its end
 less : (c : tie.After-struct-known3 Inv-loop μ-loop) → c .before .before .before .before .loop .moved < c .before .before .before .before .before .before .before .before .before .before .args .transfer .total
-less c = omega (arith, c .before .if1 .left, c .before .before .before .before .loop .inv .1 .within)
+less c = omega (arith, c .before .if1 .left, c .before .before .before .before .loop .inv .1 .sofar .within)
 
 add-to : tie.Need-add-to Inv-loop μ-loop
 add-to c =
     let v = c .before .before .before .before .loop in
-    let f = transfer-fits (movedTo (c .before .before .before .before .before .before .before .before .before .before .args .transfer) (v .moved)) (v .inv .1 .fits (less c)) in
+    let f = transfer-fits (movedTo (c .before .before .before .before .before .before .before .before .before .before .args .transfer) (v .moved)) (v .inv .1 .sofar .fits (less c)) in
     omega (arith, f .destination-inside)
 
 sub-bytes-within : tie.Need-sub-bytes-within Inv-loop μ-loop
@@ -70,18 +69,18 @@ add-if2 c = omega arith
 turn-at : (c : tie.After-struct-known5 Inv-loop μ-loop) → let start = c .before .before .before .before .before .before .before .before .before .before .before .before .before .before in
     let a = start .args in
     let v = c .before .before .before .before .before .before .before .before .loop in
-    Turn (a .settings) (a .transfer) (windowsOf (now (a .windows))) (now (a .memory)) (start .pre .0) (start .pre .1 .1) (v .memory) (v .moved) (c .before .before .bytes-within .result)
+    PlainTurn (a .settings) (a .transfer) (windowsOf (now (a .windows))) (now (a .memory)) (start .pre .0) (start .pre .1 .1) (v .memory) (v .moved) (c .before .before .bytes-within .result)
 turn-at c =
     let start = c .before .before .before .before .before .before .before .before .before .before .before .before .before .before in
     let a = start .args in
     let v = c .before .before .before .before .before .before .before .before .loop in
-    turn (a .settings) (a .transfer) (windowsOf (now (a .windows))) (now (a .memory)) (start .pre .0) (start .pre .1 .1) (v .inv .1) (less (c .before .before .before .before)) (c .before .before .bytes-within .ensures)
+    plain-turn (a .settings) (a .transfer) (windowsOf (now (a .windows))) (now (a .memory)) (start .pre .0) (start .pre .1 .1) (v .inv .1) (less (c .before .before .before .before)) (c .before .before .bytes-within .ensures)
     (omega (arith, c .before .if2 .left, c .before .before .before .before .before .before .before .before .before .before .before .good-ahead .ensures))
 
 add-from : tie.Need-add-from Inv-loop μ-loop
 add-from c =
     let v = c .before .before .before .before .before .before .before .before .loop in
-    let f = transfer-fits (movedTo (c .before .before .before .before .before .before .before .before .before .before .before .before .before .before .args .transfer) (v .moved)) (v .inv .1 .fits (less (c .before .before .before .before))) in
+    let f = transfer-fits (movedTo (c .before .before .before .before .before .before .before .before .before .before .before .before .before .before .args .transfer) (v .moved)) (v .inv .1 .sofar .fits (less (c .before .before .before .before))) in
     omega (arith, f .source-inside)
 
 copy-requires : tie.Need-copy-requires Inv-loop μ-loop
@@ -105,25 +104,25 @@ loop-again c =
     let d = c .before .before .before .before .before in
     let start = d .before .before .before .before .before .before .before .before .before .before .before .before .before .before in
     let a = start .args in
-    (omega arith, gliding-step (a .settings) (a .transfer) (windowsOf (now (a .windows))) (now (a .memory)) (start .pre .0) (start .pre .1 .1) (d .before .before .before .before .before .before .before .before .loop .inv .1) (less (d .before .before .before .before)) (turn-at d) (c .span .ensures) (c .before .before .before .copy .ensures))
+    (omega arith, plain-step (a .settings) (a .transfer) (windowsOf (now (a .windows))) (now (a .memory)) (start .pre .0) (start .pre .1 .1) (d .before .before .before .before .before .before .before .before .loop .inv .1) (less (d .before .before .before .before)) (turn-at d) (c .span .ensures) (c .before .before .before .copy .ensures))
 
 same-length : tie.Need-same-length Inv-loop μ-loop
-same-length c = c .before .loop .inv .1 .size
+same-length c = c .before .loop .inv .1 .sofar .size
 
 returns : tie.Need-returns Inv-loop μ-loop
-returns c = let v = c .before .loop in (v .inv .1 .reaches, v .inv .0)
+returns c = let v = c .before .loop in (v .inv .1 .sofar .reaches, v .inv .0)
 
 same-length-2 : tie.Need-same-length-2 Inv-loop μ-loop
-same-length-2 c = c .before .before .before .loop .inv .1 .size
+same-length-2 c = c .before .before .before .loop .inv .1 .sofar .size
 
 returns-2 : tie.Need-returns-2 Inv-loop μ-loop
-returns-2 c = let v = c .before .before .before .loop in (v .inv .1 .reaches, v .inv .0)
+returns-2 c = let v = c .before .before .before .loop in (v .inv .1 .sofar .reaches, v .inv .0)
 
 same-length-3 : tie.Need-same-length-3 Inv-loop μ-loop
-same-length-3 c = c .before .before .before .before .before .before .before .loop .inv .1 .size
+same-length-3 c = c .before .before .before .before .before .before .before .loop .inv .1 .sofar .size
 
 returns-3 : tie.Need-returns-3 Inv-loop μ-loop
-returns-3 c = let v = c .before .before .before .before .before .before .before .loop in (v .inv .1 .reaches, v .inv .0)
+returns-3 c = let v = c .before .before .before .before .before .before .before .loop in (v .inv .1 .sofar .reaches, v .inv .0)
 
 pub glide-spec : {M : Type 1} → statement M
 glide-spec =

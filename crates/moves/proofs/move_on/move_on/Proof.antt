@@ -5,9 +5,9 @@ use borrow.Author.Needs.{needs}
 use Rattle.kit.proofs.Legal.{legal}
 use Rattle.memory.specs.Windows.{windowsOf}
 use Rattle.memory.proofs.Groups.{pair-okay-fits}
-use Rattle.state.specs.State.{freshOf}
+use mathlib.Core.Bool.{false}
 use Rattle.state.proofs.WellFormed.{transfer-fits}
-use Rattle.steps.proofs.Bursts.{burst-fits}
+use Rattle.steps.proofs.Bursts.{bytes-fit}
 use Rattle.moves.proofs.Moved.{step-moves-on}
 use Rattle.moves.proofs.move_on.move_on.Statement.{statement}
 use Rattle.moves.proofs.move_on.move_on.Tie as tie
@@ -30,7 +30,7 @@ burst-bytes-requires c κs =
 copy-requires : tie.Need-copy-requires
 copy-requires c κs =
     let start = c .before .before .before .before .before .before .before .before .before .before .before in
-    let p = burst-fits (freshOf (start .args .settings)) (start .args .transfer) (start .pre .0) (start .pre .1) in
+    let p = bytes-fit (start .args .settings) false (start .args .transfer) (start .pre .0) (start .pre .1) in
     let e = c .before .before .before .before .before .burst-bytes .ensures in
     let f = pair-okay-fits _ _ _ _ _ (sym (c .before .before .before .judge-pair .ensures) ∙ c .before .enum-told .given .1) (omega (arith, e, p .some)) in
     (f .0, f .1, omega (arith, e, p .page))
@@ -42,7 +42,8 @@ returns-2 c s p =
     let e = c .before .before .before .before .before .before .before .before .burst-bytes .ensures in
     let f = transfer-fits (a .transfer) (start .pre .1) in
     let left = c .before .before .before .before .before .before .before .if1 .left in
-    step-moves-on p (now (a .memory)) (windowsOf (now (a .windows))) e
+    let some = bytes-fit (a .settings) false (a .transfer) (start .pre .0) (start .pre .1) .some in
+    step-moves-on p (now (a .memory)) (windowsOf (now (a .windows))) e (omega (arith, e, some))
     (sym (c .before .before .before .before .enum-told .given .1) ∙ c .before .before .before .before .before .before .judge-pair .ensures)
     (λ z. left (omega (arith, z, f .moved-less))) (c .before .before .copy .ensures)
 

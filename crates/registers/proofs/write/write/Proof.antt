@@ -1,6 +1,7 @@
 use mathlib.Core.Path.{sym, _∙_}
 use borrow.Author.Tests.{not-true, not-false}
 use Rattle.kit.proofs.Choice.{yes, no}
+use Rattle.kit.proofs.Legal.{legal}
 use borrow.Author.Needs.{needs}
 use Rattle.registers.proofs.write.write.Statement.{statement}
 use Rattle.registers.proofs.write.write.Tie as tie
@@ -24,7 +25,7 @@ returns-2 : tie.Need-returns-2
 returns-2 c = yes _ (sym (c .before .before .before .before .legal .ensures) ∙ not-false _ (c .before .before .before .if1 .left)) (no _ (sym (c .before .before .well-formed .ensures) ∙ not-true _ (c .before .if2 .taken)) (c .ignored2 .ensures))
 
 write-register-requires : tie.Need-write-register-requires
-write-register-requires c κs = search needs
+write-register-requires c κs = legal _ _ (sym (c .before .before .before .legal .ensures) ∙ not-false _ (c .before .before .if1 .left)) .width-positive
 
 returns-3 : tie.Need-returns-3
 returns-3 c = yes _ (sym (c .before .before .before .before .legal .ensures) ∙ not-false _ (c .before .before .before .if1 .left)) (yes _ (sym (c .before .before .well-formed .ensures) ∙ not-false _ (c .before .if2 .left)) (c .write-register .ensures))

@@ -55,7 +55,7 @@ returns c =
     ∙ guarded s (begun s (n .count .result) (start .result)) refl
     (n .before .before .before .either .ensures ∙ ap (λ (t : Bool). either t (s .control .sgmode)) (b .busy .ensures)) (g .gate .ensures) (n .before .before .allows .ensures)
     ∙ ap (λ (x : Start). guardOf s bar (startedOf (withBtt s (n .count .result)) x)) (start .ensures)
-    ∙ ap (λ (y : ℕ). guardOf s bar (startedOf (withBtt s y) (startOf (s .simple .sa) (s .simple .da) y))) (n .count .ensures)
+    ∙ ap (λ (y : ℕ). guardOf s bar (startedOf (withBtt s y) (startOf (s .settings .width) (s .control) (s .simple .sa) (s .simple .da) y))) (n .count .ensures)
 
 pub write-count-spec : {M : Type 1} → statement M
 write-count-spec = tie.close (tie.spec busy-requires either-requires allows-requires count-requires start-transfer-requires gate-requires start-status-requires pick-requires start-phase-requires build-requires returns)

@@ -8,8 +8,8 @@ use Rattle.runs.proofs.walk.glide_on.Tie as tie
 returns : tie.Need-returns
 returns c =
     let start = c .before .before .before .before .before .before .before .before .before in
-    let g = c .before .before .before .before .before .glide .ensures in
-    (reaches-same (c .before .event-of .ensures) (c .continue-or-finish .ensures) (g .0 (start .args .engine) None (record { set = refl; phase = start .pre .1 .1 .1 })), g .1)
+    let g = c .before .before .before .before .before .good-bursts .ensures in
+    (reaches-same (c .before .event-of .ensures) (c .continue-or-finish .ensures) (g .0 (start .args .engine) None (record { set = refl; source = refl; destination = refl; phase = start .pre .1 .1 .1 })), g .1)
 
 pub glide-on-spec : {M : Type 1} → statement M
 glide-on-spec =

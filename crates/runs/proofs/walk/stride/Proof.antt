@@ -2,9 +2,15 @@ use mathlib.Core.Path.{ap}
 use native.Mathlib.Omega.{arith}
 use borrow.Author.Needs.{needs}
 use Rattle.steps.specs.Step.{AfterAdvance}
-use Rattle.runs.proofs.Walks.{reaches-none, reaches-one}
+use Rattle.runs.proofs.Walks.{reaches-none, reaches-length, reaches-one}
 use Rattle.runs.proofs.walk.stride.Statement.{statement}
 use Rattle.runs.proofs.walk.stride.Tie as tie
+
+advance-requires : tie.Need-advance-requires
+advance-requires c κs =
+    let p = c .before .before .before .before .before .before .before .before .before .pre in
+    let size = reaches-length (c .before .before .before .before .before .bursts-ahead .ensures .0) in
+    (p .0, (p .1 .1 .0, omega (arith, p .1 .0, size)))
 
 returns-2 : tie.Need-returns-2
 returns-2 c =
@@ -16,4 +22,4 @@ returns-2 c =
 pub stride-spec : {M : Type 1} → statement M
 stride-spec =
     tie.close
-    (tie.spec (λ c κs. search needs) (λ c. search needs) (λ c. search needs) (λ c κs. search needs) (λ c. search needs) returns-2)
+    (tie.spec (λ c κs. search needs) (λ c. search needs) (λ c. search needs) advance-requires (λ c. search needs) returns-2)

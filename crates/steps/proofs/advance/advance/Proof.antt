@@ -2,6 +2,7 @@ use mathlib.Core.Path.{_≡_, refl, ap, subst}
 use mathlib.Core.Bool.{true}
 use borrow.Author.Needs.{needs}
 use denote.Ref.{now}
+use Rattle.kit.proofs.Legal.{legal}
 use Rattle.memory.specs.Windows.{windowsOf}
 use Rattle.state.specs.declared.engine.Phase.{Phase}
 use Rattle.state.specs.State.{phaseFits}
@@ -13,11 +14,18 @@ use Rattle.steps.proofs.advance.advance.Tie as tie
 
 move-burst-requires : tie.Need-move-burst-requires
 move-burst-requires c κs =
-    let a = c .before .before .before .before .before .before .args in
-    (c .before .before .before .before .before .before .pre .0, subst (λ (p : Phase). phaseFits p (a .engine .control .sgmode) ≡ true) (c .before .before .phase .given .1) (parts (a .engine) (c .before .before .before .before .before .before .pre .1) .phase))
+    let start = c .before .before .before .before .before .before in
+    let e = start .args .engine in
+    (start .pre .0, (subst (λ (p : Phase). phaseFits p (e .control .sgmode) ≡ true) (c .before .before .phase .given .1) (parts e (start .pre .1 .0) .phase), start .pre .1 .1))
+
+fetch-requires : tie.Need-fetch-requires
+fetch-requires c κs =
+    let start = c .before .before .before .before .before in
+    let x = start .args .engine .settings in
+    legal (x .width) (x .beats) (start .pre .0) .width-positive
 
 update-requires : tie.Need-update-requires
-update-requires c κs = well-formed (c .before .before .before .before .before .before .args .engine) (c .before .before .before .before .before .before .pre .1) .current-aligned
+update-requires c κs = well-formed (c .before .before .before .before .before .before .args .engine) (c .before .before .before .before .before .before .pre .1 .0) .current-aligned
 
 returns : tie.Need-returns
 returns c =
@@ -42,6 +50,6 @@ returns-4 c =
 pub advance-spec : {M : Type 1} → statement M
 advance-spec =
     tie.close
-    (tie.spec (λ c. search needs) (λ c. search needs) (λ c κs. search needs) (λ c. search needs) move-burst-requires
+    (tie.spec (λ c. search needs) (λ c. search needs) fetch-requires (λ c. search needs) move-burst-requires
     (λ c. search needs) update-requires returns (λ c. search needs) returns-2 (λ c. search needs) returns-3
     (λ c. search needs) returns-4)

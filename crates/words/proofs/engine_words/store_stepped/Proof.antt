@@ -7,7 +7,8 @@ use Rattle.words.proofs.engine_words.store_stepped.Tie as tie
 
 returns : tie.Need-returns
 returns c =
-    let bits = c .before .before .before .before .before .before in
+    let phase = c .before .before .before in
+    let bits = phase .before .before .before .before .before in
     let transfer = bits .before .before .before .before .before .before .before .before in
     let a = transfer .before .before .args in
     let s = a .engine in
@@ -18,7 +19,8 @@ returns c =
     ∷ bits .before .before .bit-number .ensures i ∷ bits .before .truth .ensures i ∷ bits .truth2 .ensures i
     ∷ s .pointers .current ∷ word w 9 ∷ s .pointers .next ∷ s .pointers .heldnext
     ∷ word w 12 ∷ word w 13 ∷ word w 14
-    ∷ c .before .phase-number .ensures i ∷ t i .source ∷ t i .destination ∷ t i .total ∷ t i .moved
+    ∷ phase .phase-number .ensures i ∷ t i .source ∷ t i .destination ∷ t i .total ∷ t i .moved
+    ∷ word w 20 ∷ word w 21
     ∷ []
 
 pub store-stepped-spec : {M : Type 1} → statement M
@@ -39,4 +41,6 @@ store-stepped-spec =
     (λ c. search needs)
     (λ c. search needs)
     (λ c κs. search needs)
+    (λ c. search needs)
+    (λ c. search needs)
     returns)

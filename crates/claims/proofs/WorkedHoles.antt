@@ -1,0 +1,44 @@
+-- The worked transfers with a fixed side, by computing them.
+use mathlib.Core.Path.{refl}
+use mathlib.Core.Logic.{inl, inr}
+use native.Mathlib.Omega.{arith}
+use Rattle.kit.specs.Settings.{legalWidth, legalBeats}
+use Rattle.kit.proofs.Choice.{never}
+use Rattle.cut.specs.Cut.{reach, burstEnd}
+use Rattle.memory.specs.Windows.{sick}
+use Rattle.memory.specs.Verdict.{groupOf}
+use Rattle.sides.specs.Sides.{sideAnswer, sideRead, sideWritten}
+use Rattle.state.specs.State.{wellFormedOf}
+use Rattle.registers.specs.Write.{registerWrittenOf}
+use Rattle.steps.specs.Step.{acceptOf, advanceOf}
+use Rattle.claims.specs.WorkedHoles.{DrainWorked, PushWorked, PassWorked}
+
+pub drain-worked : DrainWorked
+unfolding legalWidth legalBeats reach burstEnd sick groupOf wellFormedOf registerWrittenOf acceptOf advanceOf sideAnswer sideRead sideWritten
+drain-worked = record {
+  completes = record { legal = refl; well = refl; before = refl; starts = refl; runs = (refl, refl, (refl, refl, (refl, refl, refl))); good = refl };
+  alone = record { own = (refl, (refl, tt)); apart = inl (omega arith); misses = λ e. absurd (never e) };
+  moves = refl;
+  takes = refl;
+  fills = refl;
+}
+
+pub push-worked : PushWorked
+unfolding legalWidth legalBeats reach burstEnd sick groupOf wellFormedOf registerWrittenOf acceptOf advanceOf sideAnswer sideRead sideWritten
+push-worked = record {
+  completes = record { legal = refl; well = refl; before = refl; starts = refl; runs = (refl, refl, (refl, refl, (refl, refl, refl))); good = refl };
+  alone = record { own = (refl, (refl, (refl, (refl, tt)))); apart = inl (omega arith); misses = λ _. inr (omega arith) };
+  moves = refl;
+  takes = refl;
+  keeps = refl;
+}
+
+pub pass-worked : PassWorked
+unfolding legalWidth legalBeats reach burstEnd sick groupOf wellFormedOf registerWrittenOf acceptOf advanceOf sideAnswer sideRead sideWritten
+pass-worked = record {
+  completes = record { legal = refl; well = refl; before = refl; starts = refl; runs = (refl, refl, refl); good = refl };
+  alone = record { own = (refl, tt); apart = inl (omega arith); misses = λ e. absurd (never e) };
+  moves = refl;
+  takes = refl;
+  keeps = refl;
+}

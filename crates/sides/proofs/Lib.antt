@@ -1,0 +1,6 @@
+pub mod Answers
+pub mod Claims
+pub mod Moves
+pub mod Parts
+pub mod Places
+pub mod Words

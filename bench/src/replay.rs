@@ -32,7 +32,8 @@ fn time(program: &Path, trace: &Path) -> f64 {
 
 pub fn bench(folder: &Path) {
     let proved = folder.join("bin/replay");
-    let plain = folder.join("cargo/release/independent");
+    let plain =
+        std::env::current_exe().expect("this program has a path").with_file_name("independent");
     print_heading("replay", "nanoseconds a record");
     for kind in ["mixed", "bus", "copies", "chains"] {
         let what = format!("200,000 records, {kind}");

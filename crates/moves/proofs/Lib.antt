@@ -1,4 +1,3 @@
 pub mod Gliding
-pub mod GoodSides
 pub mod Incrementing
 pub mod Moved

@@ -3,9 +3,8 @@ use mathlib.Core.Path.{_≡_}
 use Prim.Native.Nat.{ℕ, _+_, min}
 use mathlib.Core.Bool.{Bool, true, false}
 use mathlib.Core.List.{List}
-use lib.Dec.{eqb, ltb}
+use lib.Dec.{eqb}
 use Rattle.kit.specs.Choice.{when}
-use Rattle.kit.specs.Limits.{mostBytes}
 use Rattle.kit.specs.declared.settings.Settings.{Settings}
 use Rattle.memory.specs.declared.window.Window.{Window}
 use Rattle.memory.specs.Good.{goodBytes}
@@ -41,11 +40,6 @@ MovesOn settings t windows m Nothing after = after ≡ m
 -- the bytes that are good both where the transfer's next burst is read and where it is written, if both sides increment
 abbrev pub goodAhead : ℕ → List Window → Transfer → ℕ
 goodAhead size windows t = min (goodBytes size windows (readsAt t)) (goodBytes size windows (writesAt t))
-
--- the bytes from byte k on that are known to be good on a side: on a fixed one any number, if all of its word is good
-abbrev pub goodSide : ℕ → List Window → ℕ → Bool → ℕ → ℕ → ℕ
-goodSide size windows w fixed start k =
-    when fixed (when (ltb (goodBytes size windows start) w) 0 mostBytes) (goodBytes size windows (start + k))
 
 -- n steps of a busy engine lead from r to a state
 pub data Reaches (windows : List Window) (r : AfterAdvance) : ℕ → AfterAdvance → Type 0 where

@@ -1,4 +1,3 @@
 // RULES.md, "Descriptor and steps", move: bursts of a transfer, moved without the rest of the engine's state at hand.
-pub mod fixed;
 pub mod glide;
 pub mod move_on;

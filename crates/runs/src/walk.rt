@@ -1,9 +1,9 @@
 // Some steps of a well-formed engine, one after the other.
 use cut::Burst;
 use cut::span;
+use fixed::glide_fixed;
 use kit::logic::either;
 use kit::settings::Settings;
-use moves::fixed::glide_fixed;
 use moves::glide::Glided;
 use moves::glide::glide;
 use state::engine::Control;

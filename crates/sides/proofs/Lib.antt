@@ -1,6 +1,7 @@
 pub mod Answers
 pub mod Claims
 pub mod Moves
+pub mod Overwritten
 pub mod Parts
 pub mod Places
 pub mod Words

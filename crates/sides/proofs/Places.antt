@@ -167,7 +167,7 @@ module _ (place : ℕ → ℕ) where
       ∙ ap (λ (s : List ℕ). sideWritten s place (suc k) vs) (set-set m (place k) v u)
 
   -- a store to a place that is written later is as if it had not been
-  written-over : (m : List ℕ) (x v k : ℕ) (vs : List ℕ) (i : ℕ) → i < length vs → place (k + i) ≡ x
+  pub written-over : (m : List ℕ) (x v k : ℕ) (vs : List ℕ) (i : ℕ) → i < length vs → place (k + i) ≡ x
       → sideWritten (set m x v) place k vs ≡ sideWritten m place k vs
   unfolding sideWritten
   written-over m x v k [] i l e = absurd (not-suc-le-zero l)

@@ -2,8 +2,8 @@ use mathlib.Core.Path.{ap₂, _∙_}
 use Prim.Native.Nat.{min}
 use Rattle.state.proofs.WellFormed.{transfer-fits}
 use borrow.Author.Needs.{needs}
-use Rattle.moves.proofs.fixed.good_sides.Statement.{statement}
-use Rattle.moves.proofs.fixed.good_sides.Tie as tie
+use Rattle.fixed.proofs.good.good_sides.Statement.{statement}
+use Rattle.fixed.proofs.good.good_sides.Tie as tie
 
 good-side-requires : tie.Need-good-side-requires
 good-side-requires c κs = transfer-fits (c .before .args .transfer) (c .before .pre) .source-inside

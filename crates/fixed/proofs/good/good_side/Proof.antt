@@ -4,8 +4,8 @@ use lib.Dec.{ltb}
 use borrow.Author.Tests.{lt-ltb, le-ltb}
 use Rattle.kit.proofs.Choice.{yes, no}
 use borrow.Author.Needs.{needs}
-use Rattle.moves.proofs.fixed.good_side.Statement.{statement}
-use Rattle.moves.proofs.fixed.good_side.Tie as tie
+use Rattle.fixed.proofs.good.good_side.Statement.{statement}
+use Rattle.fixed.proofs.good.good_side.Tie as tie
 
 returns : tie.Need-returns
 returns c =

@@ -1,21 +1,18 @@
 -- Bursts in a row meet their contract. Invariant: those moved so far are steps of every engine in the transfer's midst.
-use mathlib.Core.Path.{sym, ap, ap₂, _∙_}
-use Prim.Native.Nat.{ℕ, _-_, _≤_, _<_}
+use Prim.Native.Nat.{_-_, _≤_, _<_}
 use native.Mathlib.Omega.{arith}
 use denote.Ref.{now}
 use lib.ListN.{length}
 use borrow.Author.Needs.{needs}
 use Rattle.kit.proofs.Legal.{legal}
-use Rattle.memory.specs.Verdict.{worse}
 use Rattle.memory.specs.Windows.{windowsOf}
 use Rattle.state.proofs.WellFormed.{transfer-fits}
-use Rattle.steps.specs.Step.{answerBy}
 use Rattle.steps.proofs.Bursts.{bytes-fit}
 use Rattle.moves.specs.Moves.{movedTo}
 use Rattle.moves.proofs.Gliding.{Gliding, gliding-begin, Turn, turn-fits, turn-inside, gliding-step}
-use Rattle.moves.proofs.GoodSides.{side-small, side-okay}
-use Rattle.moves.proofs.fixed.glide_fixed.Statement.{statement}
-use Rattle.moves.proofs.fixed.glide_fixed.Tie as tie
+use Rattle.fixed.proofs.GoodSides.{side-small, good-turn}
+use Rattle.fixed.proofs.each.Statement.{statement}
+use Rattle.fixed.proofs.each.Tie as tie
 
 abbrev Inv-loop : tie.InvT-loop
 Inv-loop settings reads writes transfer memory₀ windows most moved₀ good limit last₀ steps₀ memory moved last steps =
@@ -60,22 +57,10 @@ turn-at c =
     let v = c .before .before .before .before .before .before .loop in
     let start = c .before .before .before .before .before .before .before .before .before .before in
     let a = start .args in
-    let n = c .before .before .next-bytes .result in
-    let size = length (now (a .memory)) in
-    let ws = windowsOf (now (a .windows)) in
     let e = c .before .before .next-bytes .ensures in
-    let g = legal (a .settings .width) (a .settings .beats) (start .pre .0) in
     let b = bytes-fit (a .settings) (a .writes) (movedTo (a .transfer) (v .moved)) (start .pre .0) (v .inv .1 .fits (less (c .before .before .before))) in
-    let some : 0 < n = omega (arith, e, b .some) in
-    let good = c .before .before .before .before .before .before .before .good-sides .ensures in
-    let limit = c .before .if2 .left in
-    record {
-      bytes = e;
-      okay = ap₂ worse
-          (side-okay size ws (a .settings .width) (g .width-positive) (a .transfer .source) (a .transfer .moved) (v .moved) n some (v .inv .1 .from) (a .reads) (omega (arith, limit, good)))
-          (side-okay size ws (a .settings .width) (g .width-positive) (a .transfer .destination) (a .transfer .moved) (v .moved) n some (v .inv .1 .from) (a .writes) (omega (arith, limit, good)))
-          ∙ ap (λ (k : ℕ). answerBy (a .settings) (a .reads) (a .writes) (movedTo (a .transfer) (v .moved)) k ws n) (sym (v .inv .1 .size));
-    }
+    good-turn (a .settings) (a .reads) (a .writes) (a .transfer) (windowsOf (now (a .windows))) (now (a .memory)) (start .pre .0) (v .inv .1)
+    (omega (arith, e, b .some)) e (omega (arith, c .before .if2 .left, c .before .before .before .before .before .before .before .good-sides .ensures))
 
 move-bytes-requires : tie.Need-move-bytes-requires Inv-loop μ-loop
 move-bytes-requires c κs =
@@ -126,8 +111,8 @@ same-length-3 c = c .before .before .before .before .before .loop .inv .1 .size
 returns-3 : tie.Need-returns-3 Inv-loop μ-loop
 returns-3 c = let v = c .before .before .before .before .before .loop in (v .inv .1 .reaches, v .inv .0)
 
-pub glide-fixed-spec : {M : Type 1} → statement M
-glide-fixed-spec =
+pub each-spec : {M : Type 1} → statement M
+each-spec =
     tie.close
     (tie.spec Inv-loop μ-loop good-sides-requires (λ c. search needs) add-limit loop-holds next-bytes-requires (λ c. search needs)
     (λ c. search needs) (λ c. search needs) told-at-requires (λ c. search needs) (λ c. search needs) (λ c. search needs)

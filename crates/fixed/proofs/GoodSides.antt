@@ -6,11 +6,16 @@ use mathlib.Core.Bool.{Bool, true, false}
 use mathlib.Core.List.{List}
 use native.Mathlib.Nat.{add-zero, mod-lt}
 use native.Mathlib.Omega.{arith}
+use lib.ListN.{length}
 use lib.Dec.{ltb}
 use borrow.Author.Tests.{ltb-false}
 use Rattle.kit.specs.Choice.{when}
 use Rattle.kit.specs.Limits.{mostBytes}
+use Rattle.kit.specs.Settings.{legalOf}
+use Rattle.kit.specs.declared.settings.Settings.{Settings}
 use Rattle.kit.proofs.Choice.{cases, decide}
+use Rattle.kit.proofs.Legal.{legal}
+use Rattle.cut.specs.declared.Burst.{Burst}
 use Rattle.memory.specs.declared.window.Window.{Window}
 use Rattle.memory.specs.declared.verdict.Verdict.the-variants.{Okay}
 use Rattle.memory.specs.Good.{goodBytes}
@@ -20,7 +25,11 @@ use Rattle.memory.proofs.Verdicts.{worse-right-okay}
 use Rattle.sides.specs.Sides.{placeOf, sideAnswer}
 use Rattle.sides.proofs.Claims.{claims}
 use Rattle.sides.proofs.Places.{over}
-use Rattle.moves.specs.Moves.{goodSide}
+use Rattle.state.specs.declared.engine.Transfer.{Transfer}
+use Rattle.steps.specs.Step.{bytesBy, answerBy}
+use Rattle.moves.specs.Moves.{movedTo}
+use Rattle.moves.proofs.Gliding.{Gliding, Turn}
+use Rattle.fixed.specs.Fixed.{goodSide, goodSides}
 
 module _ (size : ℕ) (windows : List Window) where
   -- bytes that answer OKAY each answer OKAY together
@@ -52,3 +61,24 @@ module _ (size : ℕ) (windows : List Window) where
     side-okay true h = word-okay (decide (ltb (goodBytes size windows a) w)) h
     side-okay false h =
         good-okay size windows (a + k₀) (a + k) n (omega (arith, from)) (omega (arith, h)) bytes ∙ sym (claims .incrementing-answer size windows w a k n)
+
+-- on both sides of a transfer
+pub sides-okay : (settings : Settings) (reads writes : Bool) (t : Transfer) (windows : List Window) (size : ℕ) → legalOf settings ≡ true
+    → {moved n : ℕ} → t .moved ≤ moved → 0 < n → moved + n ≤ t .moved + goodSides size windows (settings .width) reads writes t
+    → Okay ≡ answerBy settings reads writes (movedTo t moved) size windows n
+sides-okay settings reads writes t windows size legals {moved} {n} from some within =
+    let w = legal (settings .width) (settings .beats) legals .width-positive in
+    ap₂ worse
+    (side-okay size windows (settings .width) w (t .source) (t .moved) moved n some from reads (omega (arith, within)))
+    (side-okay size windows (settings .width) w (t .destination) (t .moved) moved n some from writes (omega (arith, within)))
+
+-- and the next burst may be moved
+pub good-turn : (settings : Settings) (reads writes : Bool) (t : Transfer) (windows : List Window) (m₀ : List ℕ) → legalOf settings ≡ true
+    → {m : List ℕ} {moved : ℕ} {last : Burst} {steps : ℕ} → Gliding settings reads writes t windows m₀ m moved last steps → {n : ℕ} → 0 < n
+    → n ≡ bytesBy settings writes (movedTo t moved) → moved + n ≤ t .moved + goodSides (length m₀) windows (settings .width) reads writes t
+    → Turn settings reads writes t windows m₀ m moved n
+good-turn settings reads writes t windows m₀ legals {moved = moved} g {n} some e within = record {
+  bytes = e;
+  okay = sides-okay settings reads writes t windows (length m₀) legals (g .from) some within
+      ∙ ap (λ (k : ℕ). answerBy settings reads writes (movedTo t moved) k windows n) (sym (g .size));
+}

@@ -39,6 +39,8 @@ function control(value,    text, known) {
     text = ""
     known = 0
     if (bit(value, 3)) { text = text " SGMode"; known += 8 }
+    if (bit(value, 4)) { text = text " KeyHoleRead"; known += 16 }
+    if (bit(value, 5)) { text = text " KeyHoleWrite"; known += 32 }
     if (bit(value, 12)) { text = text " IOC_IrqEn"; known += 4096 }
     if (bit(value, 14)) { text = text " Err_IrqEn"; known += 16384 }
     if (text == "") text = " simple mode, no interrupts"

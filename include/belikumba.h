@@ -58,7 +58,8 @@ struct belikumba_planned {
  * Cuts the transfer of `count` bytes from address `start` into bursts, for a bus of `width` bytes and bursts of at
  * most `beats` beats. Each burst reaches as far as is legal, or to the transfer's end: it stays within one page of
  * 4,096 bytes and touches at most `beats` aligned words of `width` bytes. So the bursts cover each byte once, in
- * rising order, and no list of legal bursts that covers these bytes is shorter.
+ * rising order, and no list of legal bursts that covers these bytes is shorter. The engine cuts so if its destination
+ * increments; a fixed one (RULES.md 6.10) takes pieces of one length, for which belikumba_count, below, has the formula.
  *
  * The bursts are written to `places`, of which `length` bytes are lent. A place is four bytes, the lowest first, and
  * length / 4 places are lent. Burst k, counted from 0, takes two:
@@ -115,8 +116,8 @@ enum belikumba_cdmacr {
     BELIKUMBA_CDMACR_TAILPNTREN = 1 << 1, /* always reads 1 */
     BELIKUMBA_CDMACR_RESET = 1 << 2,
     BELIKUMBA_CDMACR_SGMODE = 1 << 3,         /* chain mode */
-    BELIKUMBA_CDMACR_KEY_HOLE_READ = 1 << 4,  /* the source is fixed at one word (RULES.md 6.10) */
-    BELIKUMBA_CDMACR_KEY_HOLE_WRITE = 1 << 5, /* the destination is */
+    BELIKUMBA_CDMACR_KEY_HOLE_READ = 1 << 4,  /* the source stays at its first `width` bytes (RULES.md 6.10) */
+    BELIKUMBA_CDMACR_KEY_HOLE_WRITE = 1 << 5, /* the destination does */
     BELIKUMBA_CDMACR_IOC_IRQEN = 1 << 12,
     BELIKUMBA_CDMACR_ERR_IRQEN = 1 << 14,
     BELIKUMBA_CDMACR_IRQTHRESHOLD = 0xFF << 16 /* a field that always reads 1 */
@@ -125,7 +126,7 @@ enum belikumba_cdmacr {
 enum belikumba_cdmasr {
     BELIKUMBA_CDMASR_IDLE = 1 << 1,
     BELIKUMBA_CDMASR_SGINCLD = 1 << 3,    /* always reads 1 */
-    BELIKUMBA_CDMASR_DMAINTERR = 1 << 4,  /* a count of 0, or a fixed side off the multiples of the width */
+    BELIKUMBA_CDMASR_DMAINTERR = 1 << 4,  /* a count of 0, or a fixed side whose start or count is no multiple of the width */
     BELIKUMBA_CDMASR_DMASLVERR = 1 << 5,  /* slave error in a burst */
     BELIKUMBA_CDMASR_DMADECERR = 1 << 6,  /* decode error in a burst */
     BELIKUMBA_CDMASR_SGINTERR = 1 << 8,   /* a descriptor that was complete already */
@@ -205,8 +206,8 @@ struct belikumba_value belikumba_read(const uint32_t engine[BELIKUMBA_ENGINE_WOR
 
 /*
  * Writes `value` to the register at `offset`, and hands back the answer: 1, 9, 3, 5, 4, the first that holds, or 0.
- * A write of 0 to BTT is answered 0, sets DMAIntErr and Err_Irq and starts nothing; so does, if a side is fixed, a count or
- * a start of that side that is no multiple of the width.
+ * A BTT write is answered 0, sets DMAIntErr and Err_Irq and starts nothing if the count is 0, or if a side is fixed and its
+ * start or the count is no multiple of the width.
  */
 uint32_t belikumba_write(uint32_t engine[BELIKUMBA_ENGINE_WORDS], uint32_t offset, uint32_t value);
 

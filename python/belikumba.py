@@ -164,13 +164,16 @@ _CLOCK_FIELDS = ("bits", "address", "length", "size", "burst", "cache", "prot", 
 _Clock = _structure("_Clock", *_CLOCK_FIELDS)
 _Clocked = _structure("_Clocked", "answer", "count", "lowest")
 
+# As BELIKUMBA_INTERFACE of include/belikumba.h, which says when it rises: keep it beside words that are stored.
+INTERFACE = 2
+
 _ENGINE_WORDS = 22
 _MONITOR_WORDS = 14
 
 
 def _load():
-    beside = os.path.join(os.path.dirname(os.path.abspath(__file__)), "..", "target", "host", "libbelikumba.so")
-    path = os.environ.get("BELIKUMBA_LIBRARY") or (beside if os.path.exists(beside) else "libbelikumba.so.2")
+    beside = os.path.join(os.path.dirname(os.path.abspath(__file__)), "..", "target", "host", f"libbelikumba.so.{INTERFACE}")
+    path = os.environ.get("BELIKUMBA_LIBRARY") or (beside if os.path.exists(beside) else os.path.basename(beside))
     try:
         library = ctypes.CDLL(path)
     except OSError as error:
@@ -228,7 +231,7 @@ def _windows(windows):
 
 
 def plan(width, beats, start, count, places=None):
-    """The bursts of a transfer, as a list of (start, bytes); RULES.md 3.
+    """The bursts of a transfer whose destination increments, as a list of (start, bytes); RULES.md 3.
 
     `places` is the room for the plan, two places a burst; as much as is needed if it is not given.
     """
@@ -241,7 +244,7 @@ def plan(width, beats, start, count, places=None):
 
 
 def count(width, beats, start, count):
-    """The number of bursts of a transfer, without its plan; RULES.md 3.4."""
+    """The number of bursts of a transfer whose destination increments, without its plan; RULES.md 3.4."""
     return _counted([_number(number) for number in (width, beats, start, count)])
 
 

@@ -9,7 +9,7 @@ ROOT = os.path.join(os.path.dirname(os.path.abspath(__file__)), "..", "..")
 sys.path.insert(0, os.path.join(ROOT, "python"))
 
 from belikumba import (
-    Answer, Clock, Control, Descriptor, Engine, Event, Monitor, Refused, Register, Status, Step, count, plan,
+    INTERFACE, Answer, Clock, Control, Descriptor, Engine, Event, Monitor, Refused, Register, Status, Step, count, plan,
 )
 
 
@@ -33,6 +33,7 @@ class Header(unittest.TestCase):
                 self.assertEqual(numbers[prefix + name], member.value, prefix + name)
         for kind, words in (("ENGINE", Engine().words), ("MONITOR", Monitor().words)):
             self.assertEqual(int(re.search(rf"define BELIKUMBA_{kind}_WORDS (\d+)", text).group(1)), len(words))
+        self.assertEqual(int(re.search(r"define BELIKUMBA_INTERFACE (\d+)", text).group(1)), INTERFACE)
 
 
 class Plans(Cases):

@@ -4,16 +4,16 @@ use mathlib.Core.Bool.{Bool, true, false}
 use mathlib.Core.Logic.{inl, inr}
 use mathlib.Core.List.{List, _∷_}
 use Prim.Native.Nat.{ℕ, zero, suc, _+_, _-_, _*_, _/_, _%_, _≤_, _<_}
-use native.Mathlib.Nat.{sub-zero, mul-suc, mod-lt, mod-eq-of-lt, div-add-mod, add-mul-mod-self-left}
+use native.Mathlib.Nat.{sub-zero, mul-suc, mod-eq-of-lt, div-add-mod, add-mul-mod-self-left}
 use native.Mathlib.Omega.{arith}
 use lib.ListN.{length, getD}
-use Rattle.kit.specs.Choice.{when}
 use Rattle.kit.proofs.Legal.{legal}
-use Rattle.sides.specs.Sides.{placeOf}
+use Rattle.sides.specs.Sides.{placeOf, sideBytes, Apart}
+use Rattle.sides.proofs.Ranges.{within, disjoint}
 use Rattle.state.specs.declared.engine.Engine.{Engine}
 use Rattle.state.specs.declared.engine.Transfer.{Transfer}
 use Rattle.steps.specs.Step.{pieceBytes, statusPlace}
-use Rattle.claims.specs.Transfers.{Act, bursts, Completes, Apart, Outside, left, Copy}
+use Rattle.claims.specs.Transfers.{Act, bursts, Completes, Outside, left, Copy}
 use Rattle.claims.specs.KeyHole.{pieces, sumOf, Pieces, Push, Fill}
 use Rattle.claims.proofs.Bytes.{reads, writes, Clear, Arrived}
 use Rattle.claims.proofs.Claims.{begun, moved, arrives}
@@ -22,15 +22,7 @@ use Rattle.claims.proofs.Progress.{remainsBy, some-piece}
 
 -- ---- places
 
--- the bytes that a side uses, from its start on
-abbrev span : Bool → ℕ → ℕ → ℕ
-span fixed w total = when fixed w total
-
 module _ (w : ℕ) (some : 0 < w) where
-  within : (fixed : Bool) (a total i : ℕ) → i < total → (a ≤ placeOf fixed w a i) × (placeOf fixed w a i < a + span fixed w total)
-  within true a total i h = let less = mod-lt i some in (omega arith, omega (arith, less))
-  within false a total i h = (omega arith, omega (arith, h))
-
   -- i bytes past a multiple of the width
   module _ (n : ℕ) (whole : n % w ≡ 0) where
     past : (i : ℕ) → i < w → (n + i) % w ≡ i
@@ -50,16 +42,11 @@ module _ (w : ℕ) (some : 0 < w) where
 
 -- the last byte that a side uses
 end-place : (w : ℕ) → 0 < w → (fixed : Bool) (a total : ℕ) → 0 < total → (fixed ≡ true → w ≤ total)
-    → (span fixed w total - 1 < total) × (0 < span fixed w total) × (placeOf fixed w a (span fixed w total - 1) ≡ a + (span fixed w total - 1))
+    → (sideBytes fixed w total - 1 < total) × (0 < sideBytes fixed w total) × (placeOf fixed w a (sideBytes fixed w total - 1) ≡ a + (sideBytes fixed w total - 1))
 end-place w some true a total h f =
     let e = f refl in
     (omega (arith, some, e), some, ap (λ (x : ℕ). a + x) (mod-eq-of-lt {n = w - 1} {m = w} (omega (arith, some))))
 end-place w some false a total h f = (omega (arith, h), h, refl)
-
--- two ranges apart have no byte in common
-disjoint : (a n b k x y : ℕ) → Apart a n b k → (a ≤ x) × (x < a + n) → (b ≤ y) × (y < b + k) → x ≡ y → ⊥
-disjoint a n b k x y (inl h) p q e = omega (arith, h, p .1, q .0, e)
-disjoint a n b k x y (inr h) p q e = omega (arith, h, p .0, q .1, e)
 
 misses : (a n b k x : ℕ) → Apart a n b k → (a ≤ x) × (x < a + n) → Outside x b k
 misses a n b k x (inl h) p = inl (omega (arith, h, p .1))
@@ -79,16 +66,16 @@ module _ (s : Engine) (t : Transfer) (first : Act) (rest : List Act) (c : Comple
   some-word = legal w (s .settings .beats) (c .legal) .width-positive
 
   -- sides whose bytes do not overlap, by their spans
-  apart : Apart (t .source) (span (s .control .keyholeread) w (t .total)) (t .destination) (span (s .control .keyholewrite) w (t .total))
-      → (s .control .sgmode ≡ true → Apart (t .destination) (span (s .control .keyholewrite) w (t .total)) (statusPlace s) 4) → Clear s t
+  apart : Apart (t .source) (sideBytes (s .control .keyholeread) w (t .total)) (t .destination) (sideBytes (s .control .keyholewrite) w (t .total))
+      → (s .control .sgmode ≡ true → Apart (t .destination) (sideBytes (s .control .keyholewrite) w (t .total)) (statusPlace s) 4) → Clear s t
   apart a m = record {
-    apart = λ i j h k. disjoint (t .source) (span (s .control .keyholeread) w (t .total)) (t .destination) (span (s .control .keyholewrite) w (t .total)) (reads s t i) (writes s t j) a (within w some-word (s .control .keyholeread) (t .source) (t .total) i h) (within w some-word (s .control .keyholewrite) (t .destination) (t .total) j k);
-    misses = λ chain j k. misses (t .destination) (span (s .control .keyholewrite) w (t .total)) (statusPlace s) 4 (writes s t j) (m chain) (within w some-word (s .control .keyholewrite) (t .destination) (t .total) j k);
+    apart = λ i j h k. disjoint (t .source) (sideBytes (s .control .keyholeread) w (t .total)) (t .destination) (sideBytes (s .control .keyholewrite) w (t .total)) (reads s t i) (writes s t j) a (within w some-word (s .control .keyholeread) (t .source) (t .total) i h) (within w some-word (s .control .keyholewrite) (t .destination) (t .total) j k);
+    misses = λ chain j k. misses (t .destination) (sideBytes (s .control .keyholewrite) w (t .total)) (statusPlace s) 4 (writes s t j) (m chain) (within w some-word (s .control .keyholewrite) (t .destination) (t .total) j k);
   }
 
   -- a byte outside what the destination uses is written by none
-  none-there : (x : ℕ) → Outside x (t .destination) (span (s .control .keyholewrite) w (t .total)) → (j : ℕ) → j < t .total → writes s t j ≡ x → ⊥
-  none-there x o j h = outside (t .destination) (span (s .control .keyholewrite) w (t .total)) x (writes s t j) o (within w some-word (s .control .keyholewrite) (t .destination) (t .total) j h)
+  none-there : (x : ℕ) → Outside x (t .destination) (sideBytes (s .control .keyholewrite) w (t .total)) → (j : ℕ) → j < t .total → writes s t j ≡ x → ⊥
+  none-there x o j h = outside (t .destination) (sideBytes (s .control .keyholewrite) w (t .total)) x (writes s t j) o (within w some-word (s .control .keyholewrite) (t .destination) (t .total) j h)
 
   -- a fixed side's word is within the count
   read-word : s .control .keyholeread ≡ true → (w ≤ t .total) × ((t .total - w) % w ≡ 0)
@@ -99,16 +86,16 @@ module _ (s : Engine) (t : Transfer) (first : Act) (rest : List Act) (c : Comple
 
   -- all that a side uses lies in the memory
   module _ {m m′ : List ℕ} (d : Arrived s t m m′) where
-    source-within : t .source + span (s .control .keyholeread) w (t .total) ≤ length m
+    source-within : t .source + sideBytes (s .control .keyholeread) w (t .total) ≤ length m
     source-within =
         let e = end-place w some-word (s .control .keyholeread) (t .source) (t .total) (begun s t first rest c .suited .some) (λ f. read-word f .0) in
-        let h = d .inside (span (s .control .keyholeread) w (t .total) - 1) (e .0) .0 in
+        let h = d .inside (sideBytes (s .control .keyholeread) w (t .total) - 1) (e .0) .0 in
         omega (arith, h, e .1, e .2)
 
-    destination-within : t .destination + span (s .control .keyholewrite) w (t .total) ≤ length m
+    destination-within : t .destination + sideBytes (s .control .keyholewrite) w (t .total) ≤ length m
     destination-within =
         let e = end-place w some-word (s .control .keyholewrite) (t .destination) (t .total) (begun s t first rest c .suited .some) (λ f. write-word f .0) in
-        let h = d .inside (span (s .control .keyholewrite) w (t .total) - 1) (e .0) .1 in
+        let h = d .inside (sideBytes (s .control .keyholewrite) w (t .total) - 1) (e .0) .1 in
         omega (arith, h, e .1, e .2)
 
   -- the destination increments: each byte has its own place
@@ -122,10 +109,10 @@ module _ (s : Engine) (t : Transfer) (first : Act) (rest : List Act) (c : Comple
 pub copy : Copy
 copy s t first rest m c reading writing a =
     let w = s .settings .width in
-    let n = ap (λ (b : Bool). span b w (t .total)) reading in
-    let k = ap (λ (b : Bool). span b w (t .total)) writing in
+    let n = ap (λ (b : Bool). sideBytes b w (t .total)) reading in
+    let k = ap (λ (b : Bool). sideBytes b w (t .total)) writing in
     let d = arrives s t first rest c m (a .own) (apart s t first rest c
-    (subst (λ (x : ℕ). Apart (t .source) x (t .destination) (span (s .control .keyholewrite) w (t .total))) (sym n)
+    (subst (λ (x : ℕ). Apart (t .source) x (t .destination) (sideBytes (s .control .keyholewrite) w (t .total))) (sym n)
     (subst (λ (x : ℕ). Apart (t .source) (t .total) (t .destination) x) (sym k) (a .apart)))
     (λ chain. subst (λ (x : ℕ). Apart (t .destination) x (statusPlace s) 4) (sym k) (a .misses chain))) in
     record {
@@ -140,10 +127,10 @@ copy s t first rest m c reading writing a =
 pub fill : Fill
 fill s t first rest m c reading writing a =
     let w = s .settings .width in
-    let n = ap (λ (b : Bool). span b w (t .total)) reading in
-    let k = ap (λ (b : Bool). span b w (t .total)) writing in
+    let n = ap (λ (b : Bool). sideBytes b w (t .total)) reading in
+    let k = ap (λ (b : Bool). sideBytes b w (t .total)) writing in
     let d = arrives s t first rest c m (a .own) (apart s t first rest c
-    (subst (λ (x : ℕ). Apart (t .source) x (t .destination) (span (s .control .keyholewrite) w (t .total))) (sym n)
+    (subst (λ (x : ℕ). Apart (t .source) x (t .destination) (sideBytes (s .control .keyholewrite) w (t .total))) (sym n)
     (subst (λ (x : ℕ). Apart (t .source) w (t .destination) x) (sym k) (a .apart)))
     (λ chain. subst (λ (x : ℕ). Apart (t .destination) x (statusPlace s) 4) (sym k) (a .misses chain))) in
     record {
@@ -157,7 +144,7 @@ fill s t first rest m c reading writing a =
 
 -- the last word of what a source gives
 last-read : (w : ℕ) (some : 0 < w) (fixed : Bool) (a total i : ℕ) → (total - w) % w ≡ 0 → i < w
-    → placeOf fixed w a (total - w + i) ≡ a + (span fixed w total - w + i)
+    → placeOf fixed w a (total - w + i) ≡ a + (sideBytes fixed w total - w + i)
 last-read w some true a total i e h = let p = past w some (total - w) e i h in omega (arith, p)
 last-read w some false a total i e h = refl
 
@@ -166,10 +153,10 @@ push s t first rest m c writing a =
     let w = s .settings .width in
     let fixed = s .control .keyholeread in
     let positive = some-word s t first rest c in
-    let k = ap (λ (b : Bool). span b w (t .total)) writing in
+    let k = ap (λ (b : Bool). sideBytes b w (t .total)) writing in
     let word = write-word s t first rest c writing in
     let d = arrives s t first rest c m (a .own) (apart s t first rest c
-    (subst (λ (x : ℕ). Apart (t .source) (span fixed w (t .total)) (t .destination) x) (sym k) (a .apart))
+    (subst (λ (x : ℕ). Apart (t .source) (sideBytes fixed w (t .total)) (t .destination) x) (sym k) (a .apart))
     (λ chain. subst (λ (x : ℕ). Apart (t .destination) x (statusPlace s) 4) (sym k) (a .misses chain))) in
     let to : (i : ℕ) → i < w → writes s t (t .total - w + i) ≡ t .destination + i =
     λ i h. ap (λ (b : Bool). placeOf b w (t .destination) (t .total - w + i)) writing ∙ ap (λ (x : ℕ). t .destination + x) (past w positive (t .total - w) (word .1) i h) in

@@ -6,6 +6,7 @@ pub mod Copies
 pub mod Events
 pub mod Joined
 pub mod Judged
+pub mod Moves
 pub mod Pieces
 pub mod Progress
 pub mod Starts

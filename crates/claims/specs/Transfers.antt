@@ -15,6 +15,7 @@ use Rattle.cut.specs.declared.Burst.{Burst}
 use Rattle.cut.specs.Cut.{cut}
 use Rattle.cut.specs.Legal.{AllLegal, Tiles, Covers}
 use Rattle.memory.specs.declared.window.Window.{Window}
+use Rattle.sides.specs.Sides.{Apart}
 use Rattle.state.specs.declared.engine.Engine.{Engine}
 use Rattle.state.specs.declared.engine.Transfer.{Transfer}
 use Rattle.state.specs.declared.engine.Outcome.{Outcome}
@@ -144,10 +145,6 @@ Cover = (s : Engine) (t : Transfer) (first : Act) (rest : List Act) → Complete
     → Covered (s .settings .width) (s .settings .beats) t (bursts s (first ∷ rest))
 
 -- ---- claim 2: copy
-
--- two ranges of bytes, from a and from b on, do not overlap
-abbrev pub Apart : ℕ → ℕ → ℕ → ℕ → Type 0
-Apart a n b k = (a + n ≤ b) ⊎ (b + k ≤ a)
 
 -- the byte at x lies outside the n bytes from a on
 abbrev pub Outside : ℕ → ℕ → ℕ → Type 0

@@ -1,10 +1,9 @@
 -- Pieces in a row to a fixed destination from which no byte is read: each overwrites the one before, so all of them leave what the last one does.
 use mathlib.Core.Path.{_≡_, refl, sym, ap, subst, subst₂, _∙_}
-use mathlib.Core.Logic.{_⊎_, inl, inr}
 use Prim.Native.Nat.{ℕ, zero, suc, _+_, _-_, _*_, _≤_, _<_, min}
 use mathlib.Core.Bool.{Bool, true, false}
 use mathlib.Core.List.{List}
-use native.Mathlib.Nat.{mod-lt, suc-mul, zero-mul, mul-le-mul-left}
+use native.Mathlib.Nat.{suc-mul, zero-mul, mul-le-mul-left}
 use native.Mathlib.Omega.{arith}
 use lib.ListN.{length}
 use Rattle.kit.specs.Limits.{mostMemory}
@@ -14,8 +13,9 @@ use Rattle.kit.proofs.Choice.{never}
 use Rattle.kit.proofs.Legal.{legal}
 use Rattle.cut.specs.declared.Burst.{Burst}
 use Rattle.memory.specs.declared.window.Window.{Window}
-use Rattle.sides.specs.Sides.{placeOf}
+use Rattle.sides.specs.Sides.{sideBytes, Apart}
 use Rattle.sides.proofs.Overwritten.{moved-over}
+use Rattle.sides.proofs.Ranges.{within, disjoint}
 use Rattle.state.specs.declared.engine.Transfer.{Transfer}
 use Rattle.state.specs.State.{transferFits}
 use Rattle.state.proofs.WellFormed.{transfer-fits}
@@ -23,21 +23,12 @@ use Rattle.steps.specs.Step.{mostFixedBeats, readPlace, writePlace, bytesBy, mo
 use Rattle.steps.proofs.Bursts.{bytes-fit, Fit, answer-fit}
 use Rattle.moves.specs.Moves.{movedTo}
 use Rattle.moves.proofs.Gliding.{Gliding, gliding-begin, gliding-step}
-use Rattle.fixed.specs.Fixed.{goodSides, sideBytes, PiecesAhead}
+use Rattle.fixed.specs.Fixed.{goodSides, PiecesAhead}
 use Rattle.fixed.proofs.GoodSides.{sides-okay, good-turn}
-
--- where a byte of a side lies
-within : (w : ℕ) → 0 < w → (fixed : Bool) (a total i : ℕ) → i < total → (a ≤ placeOf fixed w a i) × (placeOf fixed w a i < a + sideBytes w fixed total)
-within w some true a total i h = let less = mod-lt i some in (omega arith, omega (arith, less))
-within w some false a total i h = (omega arith, omega (arith, h))
-
-disjoint : (a n b k x y : ℕ) → (a + n ≤ b) ⊎ (b + k ≤ a) → (a ≤ x) × (x < a + n) → (b ≤ y) × (y < b + k) → y ≡ x → ⊥
-disjoint a n b k x y (inl h) p q e = omega (arith, h, p .1, q .0, e)
-disjoint a n b k x y (inr h) p q e = omega (arith, h, p .0, q .1, e)
 
 module _ (settings : Settings) (reads : Bool) (t : Transfer) (windows : List Window) (m₀ : List ℕ) (legals : legalOf settings ≡ true)
     (small : length m₀ ≤ mostMemory) (fits : transferFits t ≡ true)
-    (apart : (t .source + sideBytes (settings .width) reads (t .total) ≤ t .destination) ⊎ (t .destination + settings .width ≤ t .source))
+    (apart : Apart (t .source) (sideBytes reads (settings .width) (t .total)) (t .destination) (settings .width))
     (n : ℕ) (bytes : n ≡ bytesBy settings true t) where
   -- k pieces on
   abbrev at : ℕ → ℕ
@@ -68,9 +59,10 @@ module _ (settings : Settings) (reads : Bool) (t : Transfer) (windows : List Win
       let w = settings .width in
       let word = legal w (settings .beats) legals .width-positive in
       moved-over w (t .destination) word m₀ (readPlace settings reads t) (at k) n (at (suc k)) n (long k h)
-      (λ i j l o. disjoint (t .source) (sideBytes w reads (t .total)) (t .destination) w (readPlace settings reads t (at (suc k) + i)) (writePlace settings true t (at k + j)) apart
+      (λ i j l o e. disjoint (t .source) (sideBytes reads w (t .total)) (t .destination) w (readPlace settings reads t (at (suc k) + i)) (writePlace settings true t (at k + j)) apart
       (within w word reads (t .source) (t .total) (at (suc k) + i) (omega (arith, l, h, suc-mul (suc k) n)))
-      (within w word true (t .destination) (t .total) (at k + j) (omega (arith, o, h, suc-mul k n, suc-mul (suc k) n))))
+      (within w word true (t .destination) (t .total) (at k + j) (omega (arith, o, h, suc-mul k n, suc-mul (suc k) n)))
+      (sym e))
 
   -- k + 1 pieces that are whole and good
   abbrev Good : ℕ → Type 0

@@ -1,6 +1,5 @@
 -- RULES.md, "Descriptor and steps", key hole: how far a transfer with a fixed side is known to be good, and which of its pieces can be moved as one.
 use mathlib.Core.Path.{_≡_}
-use mathlib.Core.Logic.{_⊎_}
 use Prim.Native.Nat.{ℕ, _+_, _-_, _*_, _≤_, min}
 use mathlib.Core.Bool.{Bool, true}
 use mathlib.Core.List.{List}
@@ -10,6 +9,7 @@ use Rattle.kit.specs.Limits.{mostBytes}
 use Rattle.kit.specs.declared.settings.Settings.{Settings}
 use Rattle.memory.specs.declared.window.Window.{Window}
 use Rattle.memory.specs.Good.{goodBytes}
+use Rattle.sides.specs.Sides.{sideBytes, Apart}
 use Rattle.state.specs.declared.engine.Transfer.{Transfer}
 use Rattle.steps.specs.Step.{bytesBy}
 
@@ -23,15 +23,10 @@ abbrev pub goodSides : ℕ → List Window → ℕ → Bool → Bool → Transfe
 goodSides size windows w reads writes t =
     min (goodSide size windows w reads (t .source) (t .moved)) (goodSide size windows w writes (t .destination) (t .moved))
 
--- the bytes from its start on that a side of a transfer of `total` bytes uses
-abbrev pub sideBytes : ℕ → Bool → ℕ → ℕ
-sideBytes w fixed total = when fixed w total
-
 -- n pieces of one length, known to be good, come next, to a fixed destination from which no byte of the transfer is read
 pub record PiecesAhead (settings : Settings) (reads writes : Bool) (t : Transfer) (size : ℕ) (windows : List Window) (most n : ℕ) : Type 0 where
   pub fixed : writes ≡ true
-  pub apart : let used = sideBytes (settings .width) reads (t .total) in
-      (t .source + used ≤ t .destination) ⊎ (t .destination + settings .width ≤ t .source)
+  pub apart : Apart (t .source) (sideBytes reads (settings .width) (t .total)) (t .destination) (settings .width)
   pub few : n ≤ most
   pub whole : n * bytesBy settings writes t ≤ t .total - t .moved
   pub good : n * bytesBy settings writes t ≤ goodSides size windows (settings .width) reads writes t

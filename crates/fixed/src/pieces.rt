@@ -6,24 +6,24 @@ use kit::settings::Settings;
 use state::engine::Transfer;
 use steps::move_burst::next_bytes;
 ghost use mathlib.Core.Path.{_≡_};
-ghost use mathlib.Core.Logic.{_⊎_};
 ghost use mathlib.Core.Bool.{true};
-ghost use Prim.Native.Nat.{_+_, _≤_, _<_};
+ghost use Prim.Native.Nat.{_<_};
 ghost use Rattle.kit.specs.Settings.{legalOf};
 ghost use Rattle.memory.specs.Windows.{windowsOf};
+ghost use Rattle.sides.specs.Sides.{sideBytes, Apart};
 ghost use Rattle.state.specs.State.{transferFits};
-ghost use Rattle.fixed.specs.Fixed.{sideBytes, PiecesAhead};
+ghost use Rattle.fixed.specs.Fixed.{PiecesAhead};
 
 // The bytes from its start on that a side uses.
-fn side_bytes(width: u32, fixed: bool, total: u32) -> u32
-    ensures { λ r. ⌜ r ≡ sideBytes width fixed total ⌝ }
+fn side_bytes(fixed: bool, width: u32, total: u32) -> u32
+    ensures { λ r. ⌜ r ≡ sideBytes fixed width total ⌝ }
 {
     if fixed { width } else { total }
 }
 
 // Two ranges of bytes do not overlap.
 fn apart(first: u32, count: u32, second: u32, number: u32) -> bool
-    ensures { λ r. ⌜ (r ≡ true → (first + count ≤ second) ⊎ (second + number ≤ first)) ⌝ }
+    ensures { λ r. ⌜ (r ≡ true → Apart first count second number) ⌝ }
 {
     if first as u64 + count as u64 <= second as u64 {
         return true;
@@ -47,7 +47,7 @@ pub fn pieces_ahead(
 {
     let width = settings.width;
     if writes {
-        let used = side_bytes(width, reads, transfer.total);
+        let used = side_bytes(reads, width, transfer.total);
         if apart(transfer.source, used, transfer.destination, width) {
             let good = good_sides(size, windows, width, reads, writes, transfer);
             let left = least(good, (transfer.total - transfer.moved) as u64);

@@ -38,7 +38,7 @@ pub struct Walked {
     pub engine: Engine,
 }
 
-// More bytes are to go than a burst can have, so asking how far memory is good pays.
+// More bytes are to go than `beats` words have, so asking how far memory is good pays.
 fn long(settings: Settings, transfer: Transfer) -> bool
     requires { ⌜ transferFits transfer ≡ true ⌝ }
 {

@@ -4,4 +4,5 @@ pub mod Moves
 pub mod Overwritten
 pub mod Parts
 pub mod Places
+pub mod Ranges
 pub mod Words

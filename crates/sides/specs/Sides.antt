@@ -1,6 +1,7 @@
 -- RULES.md, "Descriptor and steps", move and key hole: where the bytes of a transfer lie on one of its sides, what they
 -- answer, and the memory after a burst of them.
-use Prim.Native.Nat.{ℕ, zero, suc, _+_, _%_, _<_}
+use mathlib.Core.Logic.{_⊎_}
+use Prim.Native.Nat.{ℕ, zero, suc, _+_, _%_, _≤_, _<_}
 use mathlib.Core.Bool.{Bool}
 use mathlib.Core.List.{List, [], _∷_}
 use lib.ListN.{getD, set}
@@ -13,6 +14,14 @@ use Rattle.memory.specs.Verdict.{byteOf, worse}
 -- byte k of a transfer, on a side that starts at a: fixed, it lies in the word of w bytes at a
 abbrev pub placeOf : Bool → ℕ → ℕ → ℕ → ℕ
 placeOf fixed w a k = a + when fixed (k % w) k
+
+-- the bytes from its start on that such a side of a transfer of n bytes uses
+abbrev pub sideBytes : Bool → ℕ → ℕ → ℕ
+sideBytes fixed w n = when fixed w n
+
+-- two ranges of bytes, n from a on and k from b on, do not overlap
+abbrev pub Apart : ℕ → ℕ → ℕ → ℕ → Type 0
+Apart a n b k = (a + n ≤ b) ⊎ (b + k ≤ a)
 
 -- the n bytes from byte k on lie in a memory of `size` bytes
 abbrev pub Inside : ℕ → (ℕ → ℕ) → ℕ → ℕ → Type 0

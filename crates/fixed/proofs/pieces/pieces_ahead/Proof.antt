@@ -1,9 +1,9 @@
 use mathlib.Core.Path.{ap, subst}
-use mathlib.Core.Logic.{_⊎_}
-use Prim.Native.Nat.{ℕ, _+_, _*_, _/_, _≤_}
+use Prim.Native.Nat.{ℕ, _*_, _/_}
 use native.Mathlib.Nat.{div-mul-le-self, mul-le-mul-right}
 use native.Mathlib.Omega.{arith}
 use borrow.Author.Needs.{needs}
+use Rattle.sides.specs.Sides.{Apart}
 use Rattle.state.proofs.WellFormed.{transfer-fits}
 use Rattle.steps.proofs.Bursts.{bytes-fit}
 use Rattle.fixed.proofs.pieces.pieces_ahead.Statement.{statement}
@@ -30,7 +30,7 @@ returns c = λ some.
     let enough = div-mul-le-self left n in
     record {
       fixed = c .before .before .before .before .before .before .before .before .if1 .taken;
-      apart = subst (λ (x : ℕ). (a .transfer .source + x ≤ a .transfer .destination) ⊎ (a .transfer .destination + a .settings .width ≤ a .transfer .source))
+      apart = subst (λ (x : ℕ). Apart (a .transfer .source) x (a .transfer .destination) (a .settings .width))
           (c .before .before .before .before .before .before .before .side-bytes .ensures)
           (c .before .before .before .before .before .before .apart .ensures (c .before .before .before .before .before .if2 .taken));
       few = omega (arith, c .least2 .ensures);

@@ -6,9 +6,9 @@ pub mod Copies
 pub mod Events
 pub mod Joined
 pub mod Judged
-pub mod Moves
 pub mod Pieces
 pub mod Progress
+pub mod Remaining
 pub mod Starts
 pub mod Worked
 pub mod WorkedHoles

@@ -2,7 +2,6 @@
 use cut::Burst;
 use cut::span;
 use fixed::glide_fixed;
-use kit::logic::either;
 use kit::settings::Settings;
 use moves::glide::Glided;
 use moves::glide::glide;
@@ -73,7 +72,11 @@ fn good_bursts(
 {
     let reads = control.keyholeread;
     let writes = control.keyholewrite;
-    if either(reads, writes) {
+    // Two calls, so that it stays a call: compiled into the loop of a run, it would slow down all other transfers.
+    if reads {
+        return glide_fixed(settings, reads, writes, transfer, memory, windows, most);
+    }
+    if writes {
         return glide_fixed(settings, reads, writes, transfer, memory, windows, most);
     }
     glide(settings, transfer, memory, windows, most)

@@ -8,7 +8,7 @@ use lib.ListN.{getD, set}
 use Rattle.kit.specs.Choice.{when}
 use Rattle.memory.specs.declared.window.Window.{Window}
 use Rattle.memory.specs.declared.verdict.Verdict.{Verdict}
-use Rattle.memory.specs.declared.verdict.Verdict.the-variants.{Okay}
+use Rattle.memory.specs.declared.verdict.Verdict.the-variants.{Okay, Slave, Decode}
 use Rattle.memory.specs.Verdict.{byteOf, worse}
 
 -- byte k of a transfer, on a side that starts at a: fixed, it lies in the word of w bytes at a
@@ -32,6 +32,10 @@ unfoldable pub sideAnswer : ℕ → List Window → (ℕ → ℕ) → ℕ → �
 sideAnswer size windows place k zero = Okay
 sideAnswer size windows place k (suc n) = worse (byteOf size windows (place k)) (sideAnswer size windows place (suc k) n)
 
+-- and those of both sides together
+abbrev pub sidesAnswer : ℕ → List Window → (ℕ → ℕ) → (ℕ → ℕ) → ℕ → ℕ → Verdict
+sidesAnswer size windows reads writes k n = worse (sideAnswer size windows reads k n) (sideAnswer size windows writes k n)
+
 -- what they are in memory m
 unfoldable pub sideRead : List ℕ → (ℕ → ℕ) → ℕ → ℕ → List ℕ
 sideRead m place k zero = []
@@ -45,3 +49,9 @@ sideWritten m place k (v ∷ more) = sideWritten (set m (place k) v) place (suc 
 -- m after a burst of n bytes from byte k on: all are read before any is written
 abbrev pub sidesMoved : List ℕ → (ℕ → ℕ) → (ℕ → ℕ) → ℕ → ℕ → List ℕ
 sidesMoved m reads writes k n = sideWritten m writes k (sideRead m reads k n)
+
+-- and by what they answered: unless that is OKAY nothing is written
+abbrev pub carriedBy : Verdict → List ℕ → (ℕ → ℕ) → (ℕ → ℕ) → ℕ → ℕ → List ℕ
+carriedBy Okay m reads writes k n = sidesMoved m reads writes k n
+carriedBy Slave m reads writes k n = m
+carriedBy Decode m reads writes k n = m

@@ -2,14 +2,13 @@
 use kit::limits::MOST_MEMORY;
 use memory::verdict::Verdict;
 use memory::verdict::judge;
-use memory::verdict::judge_pair;
 ghost use mathlib.Core.Path.{_≡_};
 ghost use mathlib.Core.Bool.{true};
 ghost use Prim.Native.Nat.{_+_, _≤_, _<_, min};
 ghost use Rattle.kit.specs.Limits.{mostMemory, addressEnd};
 ghost use Rattle.memory.specs.Windows.{windowsOf};
 ghost use Rattle.memory.specs.Verdict.{worse as worseOf};
-ghost use Rattle.sides.specs.Sides.{placeOf, sideAnswer};
+ghost use Rattle.sides.specs.Sides.{placeOf, sideAnswer, sidesAnswer};
 
 fn least(a: u32, b: u32) -> u32
     ensures { λ r. ⌜ r ≡ min a b ⌝ }
@@ -76,7 +75,7 @@ fn judge_side(
     judge(size, windows, start + from, count)
 }
 
-// Both sides of a burst; if neither is fixed, with one look at each window.
+// Both sides of a burst.
 pub fn judge_sides(
     size: usize,
     windows: &[u32],
@@ -90,13 +89,8 @@ pub fn judge_sides(
 ) -> Verdict
     requires { ⌜ (0 < width) × (width ≤ 128) × (0 < count) × (size ≤ mostMemory) ⌝ }
     requires { ⌜ (source + from < addressEnd) × (destination + from < addressEnd) ⌝ }
-    ensures { λ r. ⌜ r ≡ worseOf (sideAnswer size (windowsOf (now (windows .entry))) (placeOf sourcefixed width source) from count) (sideAnswer size (windowsOf (now (windows .entry))) (placeOf destinationfixed width destination) from count) ⌝ }
+    ensures { λ r. ⌜ r ≡ sidesAnswer size (windowsOf (now (windows .entry))) (placeOf sourcefixed width source) (placeOf destinationfixed width destination) from count ⌝ }
 {
-    if !sourcefixed {
-        if !destinationfixed {
-            return judge_pair(size, windows, source + from, destination + from, count);
-        }
-    }
     let reads = judge_side(size, windows, width, sourcefixed, source, from, count);
     let writes = judge_side(
         size,

@@ -1,3 +1,4 @@
 pub mod Step
 pub mod Report
+pub mod Incrementing
 pub mod Claims

@@ -12,8 +12,8 @@ use Rattle.cut.specs.Cut.{burstBytes}
 use Rattle.memory.specs.declared.window.Window.{Window}
 use Rattle.memory.specs.declared.verdict.Verdict.{Verdict}
 use Rattle.memory.specs.declared.verdict.Verdict.the-variants.{Okay, Slave as SlaveError, Decode as DecodeError}
-use Rattle.memory.specs.Verdict.{worse, groupOf}
-use Rattle.sides.specs.Sides.{placeOf, sideAnswer, sidesMoved}
+use Rattle.memory.specs.Verdict.{groupOf}
+use Rattle.sides.specs.Sides.{placeOf, sidesAnswer, sidesMoved}
 use Rattle.state.specs.declared.engine.Engine.{Engine}
 use Rattle.state.specs.declared.engine.Transfer.{Transfer}
 use Rattle.state.specs.declared.engine.ErrorBit.{ErrorBit}
@@ -113,7 +113,7 @@ toldBy writes t = when writes (t .destination) (writesAt t)
 -- what its n source bytes and n destination bytes, those and no others, answer together
 abbrev pub answerBy : Settings → Bool → Bool → Transfer → ℕ → List Window → ℕ → Verdict
 answerBy x reads writes t size windows n =
-    worse (sideAnswer size windows (readPlace x reads t) (t .moved) n) (sideAnswer size windows (writePlace x writes t) (t .moved) n)
+    sidesAnswer size windows (readPlace x reads t) (writePlace x writes t) (t .moved) n
 
 -- the memory after them: all source bytes are read before any is written
 abbrev pub movedBy : Settings → Bool → Bool → Transfer → List ℕ → ℕ → List ℕ

@@ -8,8 +8,7 @@ use cut::least;
 use cut::span;
 use kit::settings::Settings;
 use memory::verdict::Verdict;
-use sides::answer::judge_sides;
-use sides::burst::move_bytes;
+use sides::carry::carry;
 use state::engine::Engine;
 use state::engine::ErrorBit;
 use state::engine::Outcome;
@@ -125,13 +124,12 @@ pub fn move_burst(
 {
     let reads = engine.control.keyholeread;
     let writes = engine.control.keyholewrite;
-    let width = engine.settings.width;
     let bytes = next_bytes(engine.settings, writes, transfer);
     let told = told_at(writes, transfer);
-    let verdict = judge_sides(
-        memory.len(),
+    let verdict = carry(
+        memory,
         windows,
-        width,
+        engine.settings.width,
         reads,
         writes,
         transfer.source,
@@ -140,19 +138,7 @@ pub fn move_burst(
         bytes,
     );
     match verdict {
-        Verdict::Okay => {
-            move_bytes(
-                memory,
-                width as usize,
-                reads,
-                writes,
-                transfer.source as usize,
-                transfer.destination as usize,
-                transfer.moved as usize,
-                bytes as usize,
-            );
-            after_burst(engine, transfer, told, bytes)
-        }
+        Verdict::Okay => after_burst(engine, transfer, told, bytes),
         Verdict::Slave => after_fault(engine, told, Outcome::Slave, ErrorBit::DmaSlvErr),
         Verdict::Decode => after_fault(engine, told, Outcome::Decode, ErrorBit::DmaDecErr),
     }

@@ -1,72 +1,27 @@
--- The claims of specs/KeyHole.antt about one move: without a fixed side, and of a piece to a fixed destination.
+-- One piece to a fixed destination.
 use mathlib.Core.Path.{_≡_, refl, sym, ap, subst, _∙_}
 use mathlib.Core.Logic.{inl, inr}
 use mathlib.Core.Bool.{Bool, true, false}
 use mathlib.Core.List.{List}
-use Prim.Native.Nat.{ℕ, _+_, _-_, _%_, _≤_, _<_}
+use Prim.Native.Nat.{ℕ, _+_, _%_, _≤_, _<_}
 use native.Mathlib.Nat.{mod-lt}
 use native.Mathlib.Omega.{arith}
 use lib.ListN.{length, getD}
 use Rattle.kit.specs.Choice.{when}
-use Rattle.kit.specs.Settings.{legalOf}
 use Rattle.kit.proofs.Choice.{never}
 use Rattle.kit.proofs.Legal.{legal}
 use Rattle.cut.specs.declared.Burst.{Burst}
-use Rattle.cut.specs.Cut.{burstBytes}
-use Rattle.memory.specs.declared.window.Window.{Window}
-use Rattle.memory.specs.declared.verdict.Verdict.{Verdict}
-use Rattle.memory.specs.declared.verdict.Verdict.the-variants.{Okay, Slave as SlaveError, Decode as DecodeError}
-use Rattle.memory.specs.Verdict.{groupOf, pairOf}
-use Rattle.memory.proofs.Groups.{group-okay-fits}
-use Rattle.memory.proofs.Verdicts.{worse-okay}
+use Rattle.memory.specs.declared.verdict.Verdict.the-variants.{Okay}
 use Rattle.sides.specs.Sides.{placeOf, Inside, sidesMoved}
 use Rattle.sides.proofs.Claims.{claims}
-use Rattle.state.specs.declared.engine.Engine.{Engine}
 use Rattle.state.specs.declared.engine.Transfer.{Transfer}
-use Rattle.state.specs.declared.engine.Phase.{Phase}
-use Rattle.state.specs.State.{transferFits, phaseFits, withControl}
-use Rattle.state.proofs.WellFormed.{well-formed}
 use Rattle.steps.specs.declared.event.Event.{Event}
 use Rattle.steps.specs.declared.event.Event.the-variants.{Move as Moved}
-use Rattle.steps.specs.Step.{AfterAdvance, advanceSeen, readsAt, writesAt, readPlace, toldAt, nextBytes, burstMoved, afterBurstOf, moveBurstBy, moveBurstOf}
-use Rattle.steps.proofs.Advances.{judged, Advance, rests, halts, fetches, moves, faults, updates, advances, advance-by}
-use Rattle.steps.proofs.Bursts.{bytes-fit, answer-fit, answer-incrementing, moved-incrementing}
+use Rattle.steps.specs.Step.{AfterAdvance, writesAt, readPlace, toldAt, nextBytes, burstMoved}
+use Rattle.steps.proofs.Advances.{judged, Advance, rests, halts, fetches, moves, faults, updates, advances}
+use Rattle.steps.proofs.Bursts.{answer-fit}
 use Rattle.claims.specs.Transfers.{burstsOf, Outside}
-use Rattle.claims.specs.KeyHole.{incrementingBy, incrementingOf, Incrementing, Remained, Remain}
-
--- ---- neither side fixed
-
-module _ (s : Engine) (t : Transfer) (m : List ℕ) (windows : List Window) (legals : legalOf (s .settings) ≡ true) (fits : transferFits t ≡ true) where
-  -- the engine with both bits 0
-  abbrev plain : Bool → Bool → Engine
-  plain reads writes =
-      withControl s (record { sgmode = s .control .sgmode; keyholeread = reads; keyholewrite = writes; iocen = s .control .iocen; erren = s .control .erren })
-
-  abbrev n : ℕ
-  n = burstBytes (s .settings .width) (s .settings .beats) (writesAt t) (t .total - t .moved)
-
-  abbrev v : Verdict
-  v = pairOf (length m) windows (readsAt t) (writesAt t) n
-
-  by-verdict : (x : Verdict) → v ≡ x → moveBurstBy (plain false false) t m n x ≡ incrementingBy (plain false false) t m n x
-  by-verdict Okay e =
-      let okay = worse-okay (groupOf (length m) windows (readsAt t) n) (groupOf (length m) windows (writesAt t) n) e in
-      ap (advanceSeen (afterBurstOf (plain false false) t (writesAt t) n))
-      (moved-incrementing (s .settings) t m n (group-okay-fits (length m) windows (readsAt t) n (okay .0) (bytes-fit (s .settings) false t legals fits .some)))
-  by-verdict SlaveError e = refl
-  by-verdict DecodeError e = refl
-
-  plain-moves : moveBurstOf (plain false false) t m windows ≡ incrementingOf (plain false false) t m windows
-  plain-moves = ap (moveBurstBy (plain false false) t m n) (answer-incrementing (s .settings) t (length m) windows n) ∙ by-verdict v refl
-
-pub incrementing : Incrementing
-incrementing s t m windows legals well e reading writing =
-    let fits = subst (λ (p : Phase). phaseFits p (s .control .sgmode) ≡ true) e (well-formed s well .phase-fits) in
-    sym (advance-by s m windows e refl)
-    ∙ subst (λ (x : Engine). moveBurstOf x t m windows ≡ incrementingOf x t m windows) (λ i. plain s t m windows legals fits (sym reading i) (sym writing i))
-    (plain-moves s t m windows legals fits)
-
--- ---- a piece to a fixed destination
+use Rattle.claims.specs.KeyHole.{Remained, Remain}
 
 -- the word at d after n bytes from byte k on, which come from `reads`
 module _ (w : ℕ) (some : 0 < w) (reads : ℕ → ℕ) (d k n : ℕ) (m : List ℕ) where

@@ -4,4 +4,5 @@ pub mod Following
 pub mod Whole
 pub mod Local
 pub mod Claims
+pub mod Starting
 pub mod Cases

@@ -40,7 +40,7 @@ module _ (s t : List ℕ) (p q m : ℕ) (agree : (i : ℕ) → i < m → getD s 
   byte-same : (a b i : ℕ) → a ≡ p + i → b ≡ q + i → i < m → getD s a 0 ≡ getD t b 0
   byte-same a b i e f h = ap (λ (n : ℕ). getD s n 0) e ∙ agree i h ∙ ap (λ (n : ℕ). getD t n 0) (sym f)
 
-  half-same : (a b i : ℕ) → a ≡ p + i → b ≡ q + i → i + 2 ≤ m → halfAt s a ≡ halfAt t b
+  pub half-same : (a b i : ℕ) → a ≡ p + i → b ≡ q + i → i + 2 ≤ m → halfAt s a ≡ halfAt t b
   half-same a b i e f h =
       let e0 = byte-same a b i e f (omega arith) in
       let e1 = byte-same (a + 1) (b + 1) (i + 1) (omega arith) (omega arith) (omega arith) in

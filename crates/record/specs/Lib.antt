@@ -1,5 +1,6 @@
 pub mod Mark
 pub mod Reading
 pub mod Follows
+pub mod Starts
 pub mod Claims
 pub mod Cases

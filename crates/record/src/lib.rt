@@ -10,6 +10,7 @@ pub mod mark;
 mod memory;
 pub mod reading;
 pub mod size;
+pub mod starts;
 
 use kit::word;
 use reading::Reading;

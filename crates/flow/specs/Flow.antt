@@ -9,7 +9,7 @@ use lib.Dec.{eqb, ltb}
 use Rattle.kit.specs.Choice.{when, both}
 use Rattle.record.specs.Claims.{longest}
 use Rattle.session.specs.declared.Mode.{Mode}
-use Rattle.session.specs.declared.Mode.the-variants.{Records, Steps, Over}
+use Rattle.session.specs.declared.Mode.the-variants.{Start, Records, Steps, Over}
 use Rattle.session.specs.declared.Passed.{Passed}
 use Rattle.session.specs.Effect.{startOf}
 use Rattle.flow.specs.declared.flow.Flow.{Flow}
@@ -53,6 +53,7 @@ afterRead f (negsuc n) interrupted =
 abbrev pub finishedOf : Mode → ℕ → Bool → Bool
 finishedOf Over left ended = true
 finishedOf (Steps n taken) left ended = false
+finishedOf Start left ended = when ended (eqb left 0) false
 finishedOf Records left ended = when ended (eqb left 0) false
 
 -- the replay is over if it is finished, or if nobody took its text

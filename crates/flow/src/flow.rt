@@ -81,6 +81,7 @@ fn is_over(sent: bool, mode: Mode, left: usize, ended: bool) -> bool
     match mode {
         Mode::Over => true,
         Mode::Steps { left: _, taken: _ } => false,
+        Mode::Start => { if ended { left == 0 } else { false } }
         Mode::Records => { if ended { left == 0 } else { false } }
     }
 }

@@ -21,6 +21,7 @@ ghost use Rattle.digits.specs.Tables.{Tables};
 ghost use Rattle.session.specs.declared.Mode.the-variants.{Records};
 ghost use Rattle.kit.specs.Answer.{numberOf};
 ghost use Rattle.session.specs.Effect.{lend, badOf};
+ghost use Rattle.session.specs.Turn.{staleOf};
 ghost use Rattle.session.specs.Pass.{readyOf, Takes};
 ghost use Rattle.records.specs.Tells.{Tells};
 
@@ -71,6 +72,19 @@ fn refuse(
     Passed { session, at, put }
 }
 
+// Whether a sequence number is not above the last one. CF comes first, and may carry 0.
+fn stale(before: u32, sequence: u32, body: Body) -> bool
+    ensures { λ r. ⌜ r ≡ staleOf before sequence body ⌝ }
+{
+    if before < sequence {
+        return false;
+    }
+    match body {
+        Body::Settings { width: _, beats: _ } => false,
+        _ => true,
+    }
+}
+
 // A record that is no record, or out of sequence, is the last line. `base` is the place of the input in the whole trace.
 pub fn records(
     session: Session,
@@ -107,7 +121,8 @@ pub fn records(
         );
     };
     let sequence = record.sequence;
-    if sequence <= session.sequence {
+    let body = record.body;
+    if stale(session.sequence, sequence, body) {
         return refuse(
             session,
             Answer::Sequence,
@@ -119,7 +134,6 @@ pub fn records(
             put,
         );
     }
-    let body = record.body;
     let effect = match body {
         Body::Settings { width, beats } => effect::settings(
             session,

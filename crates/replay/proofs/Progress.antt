@@ -13,7 +13,7 @@ use Rattle.kit.specs.Choice.{when, both}
 use Rattle.kit.proofs.Choice.{decide, never, both-join}
 use Rattle.record.specs.Claims.{longest}
 use Rattle.session.specs.declared.Mode.{Mode}
-use Rattle.session.specs.declared.Mode.the-variants.{Records, Steps, Over}
+use Rattle.session.specs.declared.Mode.the-variants.{Start, Records, Steps, Over}
 use Rattle.session.specs.declared.Session.{Session}
 use Rattle.session.specs.Pass.{readyOf, lineRoom}
 use Rattle.flow.specs.declared.flow.Flow.{Flow}
@@ -33,6 +33,9 @@ Enough f = (f .ended ≡ true) ⊎ (longest ≤ leftOf f)
 finished : (mode : Mode) (left : ℕ) (ended : Bool) → readyOf mode left ended ≡ false → (ended ≡ true) ⊎ (longest ≤ left) → finishedOf mode left ended ≡ true
 finished Over left ended e h = refl
 finished (Steps n taken) left ended e h = absurd (never (sym e))
+finished Start left true e h = eq-eqb left 0 (omega (arith, ltb-false 0 left e))
+finished Start left false e (inl h) = absurd (never h)
+finished Start left false e (inr h) = absurd (never (sym e ∙ le-leb longest left h))
 finished Records left true e h = eq-eqb left 0 (omega (arith, ltb-false 0 left e))
 finished Records left false e (inl h) = absurd (never h)
 finished Records left false e (inr h) = absurd (never (sym e ∙ le-leb longest left h))

@@ -13,7 +13,7 @@ use Rattle.kit.specs.Choice.{when}
 use Rattle.kit.specs.Limits.{mostWindows}
 use Rattle.kit.proofs.Choice.{never}
 use Rattle.session.specs.declared.Mode.{Mode}
-use Rattle.session.specs.declared.Mode.the-variants.{Records, Steps, Over}
+use Rattle.session.specs.declared.Mode.the-variants.{Start, Records, Steps, Over}
 use Rattle.session.specs.declared.Session.{Session}
 use Rattle.session.specs.Pass.{readyOf}
 use Rattle.listing.specs.Line.{headerOf}
@@ -124,11 +124,16 @@ complete f b m w fits h done rest last =
         let none : length rest ≡ 0 = ap length (last e) in
         omega (arith, length-append (h .used) (pending f b ++ rest), length-append (pending f b) rest, pending-length f b fits, h .place, none)
 
+    none : f .ended ≡ true → eqb (leftOf f) 0 ≡ true → ltb 0 (length (h .used ++ (pending f b ++ rest)) - f .position) ≡ false
+    none e d = le-ltb 0 (length (h .used ++ (pending f b ++ rest)) - f .position) (omega (arith, size e, eqb-true (leftOf f) 0 d))
+
     go : (mode : Mode) (ended : Bool) → f .ended ≡ ended → finishedOf mode (leftOf f) ended ≡ true
         → readyOf mode (length (h .used ++ (pending f b ++ rest)) - f .position) true ≡ false
     go Over ended e d = refl
     go (Steps n taken) ended e d = absurd (never d)
-    go Records true e d = le-ltb 0 (length (h .used ++ (pending f b ++ rest)) - f .position) (omega (arith, size e, eqb-true (leftOf f) 0 d))
+    go Start true e d = none e d
+    go Start false e d = absurd (never d)
+    go Records true e d = none e d
     go Records false e d = absurd (never d)
 
 -- what holds whenever the loop's test is reached: no sum can wrap in the turns that are left

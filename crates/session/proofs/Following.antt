@@ -18,7 +18,7 @@ use Rattle.record.proofs.Following.{whole, rises, clock-follows, write-follows}
 use Rattle.session.specs.declared.Mode.the-variants as modes
 use Rattle.session.specs.declared.Session.{Session}
 use Rattle.session.specs.Effect.{Lent}
-use Rattle.session.specs.Turn.{turnAs, applyOf, recordBy, recordTurnOf}
+use Rattle.session.specs.Turn.{turnAs, applyOf, numbered, staleOf, recordBy, recordTurnOf}
 use Rattle.session.specs.Pass.{readyOf, lineRoom, InOrder, goesOnWith}
 
 module _ (input : List ℕ) (at : ℕ) (ended : Bool) (put room mark size before : ℕ) where
@@ -48,6 +48,10 @@ module _ (input : List ℕ) (at : ℕ) (ended : Bool) (put room mark size before
     pub on-follows : followsOf input at mark size before ≡ true
     on-follows = both-right (readyOf modes.Records (length input - at) ended) _ rest
 
+-- a number above the last one is not stale
+pub above : (before sequence : ℕ) (body : Body) → before < sequence → staleOf before sequence body ≡ false
+above before sequence body h = ap (λ (t : Bool). both t (numbered body)) (lt-leb sequence before h)
+
 -- the AR that follows
 pub clock-in-order : (base : ℕ) (input : List ℕ) (at : ℕ) (ended : Bool) (put room : ℕ) (s : Session) → s .mode ≡ modes.Records
     → goesOnWith input at ended put room (letters 65 82) 22 (s .sequence) ≡ true
@@ -56,7 +60,7 @@ clock-in-order base input at ended put room s mode g =
     let f = on-follows input at ended put room (letters 65 82) 22 (s .sequence) g in
     record {
       read = clock-follows input at (s .sequence) (eqb (base + at) 0) f;
-      rises = rises input at (letters 65 82) 22 (s .sequence) f;
+      rises = above (s .sequence) (wordAt input (at + 2)) (Clock (getD input (at + 6) 0) (clockAt input at (getD input (at + 6) 0))) (rises input at (letters 65 82) 22 (s .sequence) f);
       mode = mode;
       ready = on-ready input at ended put room (letters 65 82) 22 (s .sequence) g;
     }
@@ -69,7 +73,7 @@ write-in-order base input at ended put room s mode g =
     let f = on-follows input at ended put room (letters 87 82) 12 (s .sequence) g in
     record {
       read = write-follows input at (s .sequence) (eqb (base + at) 0) f;
-      rises = rises input at (letters 87 82) 12 (s .sequence) f;
+      rises = above (s .sequence) (wordAt input (at + 2)) (Write (halfAt input (at + 6)) (wordAt input (at + 8))) (rises input at (letters 87 82) 12 (s .sequence) f);
       mode = mode;
       ready = on-ready input at ended put room (letters 87 82) 12 (s .sequence) g;
     }
@@ -77,5 +81,4 @@ write-in-order base input at ended put room s mode g =
 -- what a record in order does
 pub in-order-turn : {base : ℕ} {input : List ℕ} {ended : Bool} {s : Session} {at sequence : ℕ} {body : Body} {next : ℕ} (o : InOrder base input ended s at sequence body next) (lent : Lent)
     → recordTurnOf s (base + at) input at lent ≡ turnAs (applyOf s sequence (base + at) input at lent body) next
-in-order-turn {base} {input} {s = s} {at} {sequence} o lent =
-    ap (recordBy s (base + at) input at lent) (o .read) ∙ sym (no _ (lt-leb sequence (s .sequence) (o .rises)) refl)
+in-order-turn {base} {input} {s = s} {at} o lent = ap (recordBy s (base + at) input at lent) (o .read) ∙ sym (no _ (o .rises) refl)

@@ -53,6 +53,7 @@ told : (m : Mode) {l k : Line} → underWay m ≡ false → l ≡ k → {out out
 told m {l} {k} e is {out} {out′} {put} {put′} p = subst (Puts out out′ put put′) (ap lineOf is ∙ by m e) p
   where
     by : (m : Mode) → underWay m ≡ false → lineOf k ≡ textOf m k
+    by modes.Start e = refl
     by modes.Records e = refl
     by (modes.Steps left taken) e = absurd (never (sym e))
     by modes.Over e = refl

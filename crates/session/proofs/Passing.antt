@@ -14,13 +14,14 @@ use lib.Dec.{leb, ltb}
 use Rattle.kit.specs.Choice.{both}
 use Rattle.kit.proofs.Choice.{decide, both-left, both-right, both-join}
 use Rattle.listing.specs.Line.{lineOf}
+use Rattle.record.specs.Starts.{settingsAt}
 use Rattle.digits.specs.Puts.{Puts}
 use Rattle.digits.proofs.Puts.{puts-length, puts-then}
 use Rattle.session.specs.declared.Mode.{Mode}
 use Rattle.session.specs.declared.Mode.the-variants as modes
 use Rattle.session.specs.declared.Session.{Session}
 use Rattle.session.specs.declared.Passed.{Passed}
-use Rattle.session.specs.Effect.{Lent, lend, textOf}
+use Rattle.session.specs.Effect.{Lent, lend, textOf, withMode, openingOf}
 use Rattle.session.specs.Stepping.{stepLineOf}
 use Rattle.session.specs.Turn.{recordTurnOf}
 use Rattle.session.specs.Pass.{readyOf, readyIn, Replay, replayAs, turnBy, turnOn, turnsOf, lineRoom, goesOn, Passes, Takes}
@@ -137,6 +138,7 @@ unfolding turnOn
 turn-behind base input text x = go (x .session .mode)
   where
     go : (mode : Mode) → turnBy base input (behind text x) mode ≡ behind text (turnBy base input x mode)
+    go modes.Start = ap (replayAs (withMode (x .session) modes.Records) (x .at) (x .lent)) (append-assoc text (x .text) (openingOf (x .session) (settingsAt input (x .at))))
     go modes.Records =
         let t = recordTurnOf (x .session) (base + x .at) input (x .at) (x .lent) in
         ap (replayAs (t .effect .session) (t .at) (t .lent)) (append-assoc text (x .text) (textOf (t .effect .session .mode) (t .effect .line)))

@@ -1,7 +1,7 @@
 -- A record's turn, alone or in a loop, and that turns come to an end.
 use mathlib.Core.Path.{_≡_, refl, sym, ap, subst, _∙_}
 use Prim.Native.Nat.{ℕ, zero, suc, _+_, _-_, _*_, _≤_, _<_}
-use mathlib.Core.Bool.{Bool, true}
+use mathlib.Core.Bool.{Bool, true, false}
 use mathlib.Core.List.{List, [], _++_}
 use native.Mathlib.Omega.{arith}
 use lib.ListN.{length, length-append}
@@ -13,12 +13,13 @@ use Rattle.listing.specs.Line.{lineOf}
 use Rattle.digits.specs.Puts.{Puts}
 use Rattle.listing.proofs.Lines.{line-some}
 use Rattle.record.specs.Reading.{readingOf}
+use Rattle.record.specs.Starts.{settingsAt}
 use Rattle.session.specs.declared.Mode.{Mode}
 use Rattle.session.specs.declared.Mode.the-variants as modes
 use Rattle.session.specs.declared.Session.{Session}
 use Rattle.session.specs.declared.Effect.{Effect}
 use Rattle.session.specs.declared.Passed.{Passed}
-use Rattle.session.specs.Effect.{Lent, after, textOf, underWay}
+use Rattle.session.specs.Effect.{Lent, after, textOf, underWay, settingsLineOf, openingOf}
 use Rattle.session.specs.Stepping.{stepLineOf}
 use Rattle.session.specs.Turn.{Turn, turnAs, recordTurnOf}
 use Rattle.session.specs.Pass.{readyOf, readyIn, Replay, replayAs, recordOn, turnBy, turnOn, turnsOf, lineRoom, goesOn, Takes}
@@ -62,21 +63,23 @@ module _ (base : ℕ) (input : List ℕ) (s : Session) (at : ℕ) (lent : Lent) 
         (record-kept s (base + at) input at lent (p .within) (readingOf input at (eqb (base + at) 0)) refl) in
         passing-turn p (textOf (e .session .mode) (e .line)) record-on ready free puts (omega arith) (kept .within) (kept .lengths)
 
--- ---- turns come to an end: each puts a line, or is an ST's, whose lines come next
+-- ---- turns come to an end: each puts a line, or is a CF's opening, whose record comes next, or an ST's, whose lines come next
 
 abbrev pub weight : Mode → ℕ
+weight modes.Start = 2
 weight modes.Records = 1
 weight (modes.Steps left taken) = 0
 weight modes.Over = 0
 
-weight-small : (mode : Mode) → weight mode ≤ 1
+weight-small : (mode : Mode) → weight mode ≤ 2
+weight-small modes.Start = omega arith
 weight-small modes.Records = omega arith
 weight-small (modes.Steps left taken) = omega arith
 weight-small modes.Over = omega arith
 
--- what is left of the room, and whether a record comes next
+-- what is left of the room, and what comes next
 abbrev weighed : ℕ → Replay → ℕ
-weighed room x = 2 * (room - length (x .text)) + weight (x .session .mode)
+weighed room x = 3 * (room - length (x .text)) + weight (x .session .mode)
 
 module _ (room base : ℕ) (input : List ℕ) (ended : Bool) where
   turn-less : (x : Replay) → goesOn room input ended x ≡ true → weighed room (turnOn base input x) < weighed room x
@@ -86,12 +89,18 @@ module _ (room base : ℕ) (input : List ℕ) (ended : Bool) where
       free : length (x .text) + lineRoom ≤ room
       free = leb-true (length (x .text) + lineRoom) room (both-left (leb (length (x .text) + lineRoom) room) (readyIn input ended x) go)
 
-      told : (m : Mode) (l : Line) → 2 * (room - length (x .text ++ textOf m l)) + weight m < 2 * (room - length (x .text)) + 1
+      told : (m : Mode) (l : Line) → 3 * (room - length (x .text ++ textOf m l)) + weight m < 3 * (room - length (x .text)) + 1
+      told modes.Start l = omega (arith, length-append (x .text) (lineOf l), line-some l, free)
       told modes.Records l = omega (arith, length-append (x .text) (lineOf l), line-some l, free)
       told (modes.Steps left taken) l = omega (arith, length-append (x .text) [], free)
       told modes.Over l = omega (arith, length-append (x .text) (lineOf l), line-some l, free)
 
-      by : (m : Mode) → x .session .mode ≡ m → weighed room (turnBy base input x m) < 2 * (room - length (x .text)) + weight m
+      opened : (settings : Bool) → 3 * (room - length (x .text ++ openingOf (x .session) settings)) + 1 < 3 * (room - length (x .text)) + 2
+      opened true = omega (arith, length-append (x .text) [], free)
+      opened false = let l = settingsLineOf (x .session .sequence) (x .session .engine .settings .width) (x .session .engine .settings .beats) in omega (arith, length-append (x .text) (lineOf l), line-some l, free)
+
+      by : (m : Mode) → x .session .mode ≡ m → weighed room (turnBy base input x m) < 3 * (room - length (x .text)) + weight m
+      by modes.Start e = opened (settingsAt input (x .at))
       by modes.Records e = let t = recordTurnOf (x .session) (base + x .at) input (x .at) (x .lent) in told (t .effect .session .mode) (t .effect .line)
       by (modes.Steps left taken) e =
           let a = stepLineOf (x .session) left taken (x .lent) in
@@ -109,10 +118,10 @@ module _ (room base : ℕ) (input : List ℕ) (ended : Bool) where
 
 pub takes-less : {base : ℕ} {input : List ℕ} {ended : Bool} {s : Session} {at : ℕ} {lent : Lent} {out : List ℕ} {put : ℕ} {r : Passed} {lent′ : Lent} {out′ : List ℕ}
     → Takes base input ended s at lent out put r lent′ out′ → put ≤ length out
-    → 2 * (length out - r .put) + weight (r .session .mode) < 2 * (length out - put) + weight (s .mode)
+    → 3 * (length out - r .put) + weight (r .session .mode) < 3 * (length out - put) + weight (s .mode)
 takes-less {base} {input} {ended} {s} {at} {lent} {out} {put} {r} {lent′} q h = by (q .turns) refl
   where
-    by : (n : ℕ) → q .turns ≡ n → 2 * (length out - r .put) + weight (r .session .mode) < 2 * (length out - put) + weight (s .mode)
+    by : (n : ℕ) → q .turns ≡ n → 3 * (length out - r .put) + weight (r .session .mode) < 3 * (length out - put) + weight (s .mode)
     by zero e = absurd (omega (arith, q .some, e))
     by (suc n) e =
         let less = turns-less (length out - put) base input ended (replayAs s at lent []) n (λ k i. q .goes k (omega (arith, e))) in
@@ -124,6 +133,7 @@ takes-less {base} {input} {ended} {s} {at} {lent} {out} {put} {r} {lent′} q h 
 -- ---- an ST that is under way can always go on
 
 pub ready-any : (mode : Mode) (n : ℕ) (ended : Bool) → underWay mode ≡ true → readyOf mode n ended ≡ true
+ready-any modes.Start n ended e = absurd (never e)
 ready-any modes.Records n ended e = absurd (never e)
 ready-any (modes.Steps left taken) n ended e = refl
 ready-any modes.Over n ended e = e

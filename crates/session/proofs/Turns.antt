@@ -22,7 +22,7 @@ use Rattle.session.specs.declared.Mode.the-variants as modes
 use Rattle.session.specs.declared.Session.{Session}
 use Rattle.session.specs.Effect.{Lent, After}
 use Rattle.session.specs.Stepping.{usedOf, stopsOf, acceptedOf, stepLineOf}
-use Rattle.session.specs.Turn.{applyOf, Turn, recordBy}
+use Rattle.session.specs.Turn.{applyOf, Turn, staleOf, recordBy}
 use Rattle.session.specs.Pass.{Replay, turnBy, turnOn, turnsOf}
 use Rattle.session.proofs.Records.{inside}
 
@@ -76,7 +76,7 @@ pub record-kept : (s : Session) (position : ℕ) (input : List ℕ) (at : ℕ) (
     → readingOf input at (eqb position 0) ≡ v → Kept input lent (recordBy s position input at lent v .at) (recordBy s position input at lent v .lent)
 record-kept s position input at lent h Refused e = record { lengths = same lent; within = h }
 record-kept s position input at lent h (Found r next) e =
-    cases (λ (t : Turn). Kept input lent (t .at) (t .lent)) (leb (r .sequence) (s .sequence)) (λ _. record { lengths = same lent; within = h })
+    cases (λ (t : Turn). Kept input lent (t .at) (t .lent)) (staleOf (s .sequence) (r .sequence) (r .body)) (λ _. record { lengths = same lent; within = h })
     (λ _. record { lengths = apply-lengths s position input at lent (r .sequence) (r .body); within = inside input at (eqb position 0) r next e .1 })
 
 turn-kept : (base : ℕ) (input : List ℕ) (r : Replay) → r .at ≤ length input → Kept input (r .lent) (turnOn base input r .at) (turnOn base input r .lent)
@@ -84,6 +84,7 @@ unfolding turnOn
 turn-kept base input r h = go (r .session .mode)
   where
     go : (mode : Mode) → Kept input (r .lent) (turnBy base input r mode .at) (turnBy base input r mode .lent)
+    go modes.Start = record { lengths = same (r .lent); within = h }
     go modes.Records = record-kept (r .session) (base + r .at) input (r .at) (r .lent) h (readingOf input (r .at) (eqb (base + r .at) 0)) refl
     go (modes.Steps left taken) = record { lengths = step-lengths (r .session) left taken (r .lent); within = h }
     go modes.Over = record { lengths = same (r .lent); within = h }

@@ -21,19 +21,23 @@ use Rattle.listing.specs.declared.line.Line.{Line}
 use Rattle.listing.specs.Line.{lineOf}
 use Rattle.listing.specs.declared.word.Word.the-variants.{Set, Memory, Window, Write, Read, NoRead, Bus, Stop, Bad}
 use Rattle.session.specs.declared.Mode.{Mode}
-use Rattle.session.specs.declared.Mode.the-variants.{Records, Steps, Over}
+use Rattle.session.specs.declared.Mode.the-variants.{Start, Records, Steps, Over}
 use Rattle.session.specs.declared.Session.{Session}
 use Rattle.session.specs.declared.Effect.{Effect}
 
--- without CF W=4, L=16; no windows, a fresh engine and monitor; sequence numbers start above 0
-abbrev pub startOf : Session
-startOf = record {
-  engine = freshOf (record { width = 4; beats = 16 });
+-- without CF W=4 and these beats; no windows, a fresh engine and monitor; nothing is read yet
+abbrev pub startWith : ℕ → Session
+startWith beats = record {
+  engine = freshOf (record { width = 4; beats = beats });
   monitor = bus.freshOf;
   sequence = 0;
   windows = 0;
-  mode = Records;
+  mode = Start;
 }
+
+-- without CF W=4, L=64
+abbrev pub startOf : Session
+startOf = startWith 64
 
 -- a session with parts replaced
 abbrev pub withEngine : Session → ℕ → Engine → Session
@@ -75,13 +79,21 @@ badLineOf sequence answer position = record { sequence = sequence; word = Bad; f
 abbrev pub badOf : Session → ℕ → ℕ → Effect
 badOf s answer position = record { session = withMode s Over; line = badLineOf (s .sequence) answer position }
 
+-- set W L
+abbrev pub settingsLineOf : ℕ → ℕ → ℕ → Line
+settingsLineOf sequence width beats = record { sequence = sequence; word = Set; first = width; second = beats }
+
+-- a trace that does not start with CF: the settings that hold are told before its first record is judged
+abbrev pub openingOf : Session → Bool → List ℕ
+openingOf s settings = when settings [] (lineOf (settingsLineOf (s .sequence) (s .engine .settings .width) (s .engine .settings .beats)))
+
 -- CF: set W L
 abbrev pub settingsOf : Session → ℕ → ℕ → ℕ → ℕ → Effect
 settingsOf s sequence width beats position =
     when (legalSettings width beats)
     (record {
       session = withEngine s sequence (freshOf (record { width = width; beats = beats }));
-      line = record { sequence = sequence; word = Set; first = width; second = beats };
+      line = settingsLineOf sequence width beats;
     })
     (badOf s (numberOf answers.Settings) position)
 
@@ -151,6 +163,7 @@ stepsOf s sequence count = record {
 
 -- the text of a record: its line, but of an ST none
 abbrev pub underWay : Mode → Bool
+underWay Start = false
 underWay Records = false
 underWay (Steps left taken) = true
 underWay Over = false

@@ -12,20 +12,22 @@ use Rattle.digits.specs.Puts.{Puts}
 use Rattle.record.specs.declared.reading.Body.{Body}
 use Rattle.record.specs.declared.reading.Reading.the-variants.{Found}
 use Rattle.record.specs.Reading.{readingOf}
+use Rattle.record.specs.Starts.{settingsAt}
 use Rattle.record.specs.Follows.{followsOf}
 use Rattle.record.specs.Claims.{longest}
 use Rattle.session.specs.declared.Mode.{Mode}
-use Rattle.session.specs.declared.Mode.the-variants.{Records, Steps, Over}
+use Rattle.session.specs.declared.Mode.the-variants.{Start, Records, Steps, Over}
 use Rattle.session.specs.declared.Session.{Session}
 use Rattle.session.specs.declared.Passed.{Passed}
-use Rattle.session.specs.Effect.{Lent, lend, After, textOf}
+use Rattle.session.specs.Effect.{Lent, lend, After, textOf, withMode, openingOf}
 use Rattle.session.specs.Stepping.{stepLineOf}
-use Rattle.session.specs.Turn.{Turn, recordTurnOf}
+use Rattle.session.specs.Turn.{Turn, staleOf, recordTurnOf}
 
 -- a turn can be taken: a step is under way, or a whole record is left, or at the trace's end any byte
 abbrev pub readyOf : Mode → ℕ → Bool → Bool
 readyOf (Steps n taken) left ended = true
 readyOf Over left ended = false
+readyOf Start left ended = when ended (ltb 0 left) (leb longest left)
 readyOf Records left ended = when ended (ltb 0 left) (leb longest left)
 
 -- a replay so far: the session, the next record's place, what is lent, and the text of the lines
@@ -50,8 +52,13 @@ recordOn r t = replayAs (t .effect .session) (t .at) (t .lent) (r .text ++ textO
 abbrev pub stepOn : Replay → After → Replay
 stepOn r a = replayAs (a .effect .session) (r .at) (a .lent) (r .text ++ lineOf (a .effect .line))
 
--- one turn more, on the part of a trace that stands at `base`: the next record, or a line of the ST that is under way
+abbrev pub openOn : Replay → Bool → Replay
+openOn r settings = replayAs (withMode (r .session) Records) (r .at) (r .lent) (r .text ++ openingOf (r .session) settings)
+
+-- one turn more, on the part of a trace that stands at `base`: what comes before the first record, the next record, or a
+-- line of the ST that is under way
 abbrev pub turnBy : ℕ → List ℕ → Replay → Mode → Replay
+turnBy base input r Start = openOn r (settingsAt input (r .at))
 turnBy base input r Records = recordOn r (recordTurnOf (r .session) (base + r .at) input (r .at) (r .lent))
 turnBy base input r (Steps left taken) = stepOn r (stepLineOf (r .session) left taken (r .lent))
 turnBy base input r Over = r
@@ -94,10 +101,10 @@ PassUnique = (s : Session) (base : ℕ) (input : List ℕ) (ended : Bool) (m w o
     → Passes s base input ended m w out r m₁ w₁ out₁ → Passes s base input ended m w out r′ m₂ w₂ out₂
     → (r ≡ r′) × (m₁ ≡ m₂) × (w₁ ≡ w₂) × (out₁ ≡ out₂)
 
--- the record at `at` was read, its sequence number is above the last one, and a pass may take it
+-- the record at `at` was read, its sequence number is not stale, and a pass may take it
 pub record InOrder (base : ℕ) (input : List ℕ) (ended : Bool) (s : Session) (at sequence : ℕ) (body : Body) (next : ℕ) : Type 0 where
   pub read : readingOf input at (eqb (base + at) 0) ≡ Found (record { sequence = sequence; body = body }) next
-  pub rises : s .sequence < sequence
+  pub rises : staleOf (s .sequence) sequence body ≡ false
   pub mode : s .mode ≡ Records
   pub ready : readyOf Records (length input - at) ended ≡ true
 

@@ -1,9 +1,10 @@
 -- RULES.md, "Trace and listing": a record is read, judged and applied.
 use Prim.Native.Nat.{ℕ, _+_, _≤_}
+use mathlib.Core.Bool.{Bool, true, false}
 use mathlib.Core.List.{List}
 use lib.ListN.{length}
 use lib.Dec.{eqb, leb}
-use Rattle.kit.specs.Choice.{when}
+use Rattle.kit.specs.Choice.{when, both}
 use Rattle.kit.specs.declared.answer.Answer.the-variants as answers
 use Rattle.kit.specs.Answer.{numberOf}
 use Rattle.record.specs.declared.reading.Body.{Body}
@@ -44,11 +45,25 @@ pub record Turn : Type 0 where
 abbrev pub turnAs : After → ℕ → Turn
 turnAs a at = record { effect = a .effect; at = at; lent = a .lent }
 
+-- CF comes first, and may carry 0
+abbrev pub numbered : Body → Bool
+numbered (Settings width beats) = false
+numbered (Memory address count) = true
+numbered (Window start count) = true
+numbered (Write offset value) = true
+numbered (Read offset) = true
+numbered (Steps count) = true
+numbered (Clock bits clock) = true
+
+-- any other record's sequence number has to be above the last one
+abbrev pub staleOf : ℕ → ℕ → Body → Bool
+staleOf before sequence body = both (leb sequence before) (numbered body)
+
 -- a record by what reading gave: none, a sequence number not above the last one, then the record's own refusals
 abbrev pub recordBy : Session → ℕ → List ℕ → ℕ → Lent → Reading → Turn
 recordBy s position input at lent Refused = turnAs (after (badOf s (numberOf answers.Record) position) lent) at
 recordBy s position input at lent (Found r next) =
-    when (leb (r .sequence) (s .sequence)) (turnAs (after (badOf s (numberOf answers.Sequence) position) lent) at)
+    when (staleOf (s .sequence) (r .sequence) (r .body)) (turnAs (after (badOf s (numberOf answers.Sequence) position) lent) at)
     (turnAs (applyOf s (r .sequence) position input at lent (r .body)) next)
 
 -- the record at `at`, which is the trace's first where its position is 0

@@ -11,8 +11,9 @@ use state::engine::fresh;
 ghost use mathlib.Core.Path.{_≡_};
 ghost use Rattle.session.specs.Effect.{startOf, underWay};
 
-// Reading records, in the midst of an ST, or over after a bad line.
+// Nothing read yet, reading records, in the midst of an ST, or over after a bad line.
 pub enum Mode {
+    Start,
     Records,
     Steps { left: u32, taken: u32 },
     Over,
@@ -51,18 +52,19 @@ pub fn under_way(mode: Mode) -> bool
 {
     match mode {
         Mode::Steps { left: _, taken: _ } => true,
+        Mode::Start => false,
         Mode::Over => false,
         Mode::Records => false,
     }
 }
 
-// No windows, a fresh engine and monitor; without a CF record the width is 4 and the beats are 16.
+// No windows, a fresh engine and monitor; without a CF record the width is 4 and the beats are 64.
 pub fn start() -> Session
     ensures { λ r. ⌜ r ≡ startOf ⌝ }
 {
     let engine = fresh(Settings {
         width: 4,
-        beats: 16,
+        beats: 64,
     });
     let monitor = Monitor::fresh();
     Session {
@@ -70,6 +72,6 @@ pub fn start() -> Session
         monitor,
         sequence: 0,
         windows: 0,
-        mode: Mode::Records,
+        mode: Mode::Start,
     }
 }

@@ -27,6 +27,7 @@ pub fn ready(mode: Mode, left: usize, ended: bool) -> bool
     match mode {
         Mode::Steps { left: _, taken: _ } => true,
         Mode::Over => false,
+        Mode::Start => record_ready(left, ended),
         Mode::Records => record_ready(left, ended),
     }
 }

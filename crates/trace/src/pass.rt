@@ -1,6 +1,7 @@
 // Turns on a part of a trace, as many as can be taken: until a record may be cut off by the part's end, the buffer
 // for the listing is full, or the replay is over.
 use lines::lines::lines;
+use opening::open;
 use records::records::records;
 use session::LINE_ROOM;
 use session::Mode;
@@ -15,7 +16,7 @@ ghost use Rattle.digits.specs.Tables.{Tables};
 ghost use Rattle.session.specs.Effect.{lend};
 ghost use Rattle.session.specs.Pass.{readyOf, Passes, Takes};
 
-// The lines of the ST that is under way, or the next record and those of its kind.
+// What comes before the first record, the lines of the ST that is under way, or the next record and those of its kind.
 fn turns(
     session: Session,
     base: u64,
@@ -37,8 +38,21 @@ fn turns(
     ensures { λ r. ⌜ Takes base (now (input .entry)) ended session at (lend (now (memory .entry)) (now (windows .entry))) (now (out .entry)) put r (lend (now (memory .exit)) (now (windows .exit))) (now (out .exit)) ⌝ }
 {
     let mode = session.mode;
-    let Mode::Steps { left, taken } = mode else {
-        return records(
+    match mode {
+        Mode::Start => open(session, input, at, leading, padded, out, put),
+        Mode::Steps { left, taken } => lines(
+            session,
+            left,
+            taken,
+            at,
+            memory,
+            windows,
+            leading,
+            padded,
+            out,
+            put,
+        ),
+        _ => records(
             session,
             base,
             input,
@@ -50,20 +64,8 @@ fn turns(
             padded,
             out,
             put,
-        );
-    };
-    lines(
-        session,
-        left,
-        taken,
-        at,
-        memory,
-        windows,
-        leading,
-        padded,
-        out,
-        put,
-    )
+        ),
+    }
 }
 
 // `base` is the place of the part in the whole trace, and `ended` says that the trace ends with it.

@@ -26,11 +26,11 @@ use Rattle.whole.proofs.Measure.{measureOf, turn-less}
 
 -- ---- the listing and its turns
 
-list-turn : (k : ℕ) (input : List ℕ) (r : Replay) → readyIn input true r ≡ true → listFrom (suc k) input r ≡ listFrom k input (turnOn 0 input r)
+pub list-turn : (k : ℕ) (input : List ℕ) (r : Replay) → readyIn input true r ≡ true → listFrom (suc k) input r ≡ listFrom k input (turnOn 0 input r)
 unfolding listFrom
 list-turn k input r e = rw (e, listFrom)
 
-list-stop : (k : ℕ) (input : List ℕ) (r : Replay) → readyIn input true r ≡ false → listFrom k input r ≡ r .text
+pub list-stop : (k : ℕ) (input : List ℕ) (r : Replay) → readyIn input true r ≡ false → listFrom k input r ≡ r .text
 unfolding listFrom
 list-stop zero input r e = refl
 list-stop (suc k) input r e = rw (e, listFrom)
@@ -64,13 +64,18 @@ module _ (input part rest : List ℕ) (place : ℕ) (ended : Bool) (within : pla
   sizes : place + length part ≤ length input
   sizes = omega (arith, length-drop place input, length-append part rest, ap length split)
 
-  -- a turn that is ready on the part is ready on the whole
-  ready-whole : (mode : Mode) (at : ℕ) → readyOf mode (length part - at) ended ≡ true → readyOf mode (length input - (place + at)) true ≡ true
-  ready-whole modes.Records at e = lt-ltb 0 (length input - (place + at)) (omega (arith, sizes, some ended e))
+  -- bytes that are left of the part are left of the whole
+  left-whole : (at : ℕ) → when ended (ltb 0 (length part - at)) (leb longest (length part - at)) ≡ true → ltb 0 (length input - (place + at)) ≡ true
+  left-whole at e = lt-ltb 0 (length input - (place + at)) (omega (arith, sizes, some ended e))
     where
       some : (t : Bool) → when t (ltb 0 (length part - at)) (leb longest (length part - at)) ≡ true → 0 < length part - at
       some true f = ltb-true 0 (length part - at) f
       some false f = omega (arith, leb-true longest (length part - at) f)
+
+  -- a turn that is ready on the part is ready on the whole
+  ready-whole : (mode : Mode) (at : ℕ) → readyOf mode (length part - at) ended ≡ true → readyOf mode (length input - (place + at)) true ≡ true
+  ready-whole modes.Start at e = left-whole at e
+  ready-whole modes.Records at e = left-whole at e
   ready-whole (modes.Steps n taken) at e = refl
   ready-whole modes.Over at e = e
 
@@ -138,7 +143,7 @@ unfolding listingOf
 listing = record {
   whole = λ input place s m w text q stop.
       let h = seen q in
-      let n = mostTurns * length input in
+      let n = suc (mostTurns * length input) in
       let turned : h .turns + n ≡ n + h .turns = omega arith in
       let over : readyIn input true (turnsOf (h .turns) 0 input atStart) ≡ false = subst (λ (x : Replay). readyIn input true x ≡ false) (h .ends) stop in
       h .said
@@ -146,6 +151,6 @@ listing = record {
       (ap (λ (x : Replay). x .text) (h .ends) ∙ sym (list-stop n input (turnsOf (h .turns) 0 input atStart) over)
       ∙ sym (list-turns input atStart (h .turns) n (h .ready)) ∙ ap (λ (k : ℕ). listFrom k input atStart) turned
       ∙ list-enough n (h .turns) input atStart (omega arith));
-  enough = λ input k. ap (λ (l : List ℕ). headerOf ++ l) (list-enough (mostTurns * length input) k input atStart (omega arith));
-  empty = ap (λ (l : List ℕ). headerOf ++ l) (list-stop (mostTurns * 0) [] atStart refl) ∙ append-nil headerOf;
+  enough = λ input k. ap (λ (l : List ℕ). headerOf ++ l) (list-enough (suc (mostTurns * length input)) k input atStart (omega arith));
+  empty = ap (λ (l : List ℕ). headerOf ++ l) (list-stop (suc (mostTurns * 0)) [] atStart refl) ∙ append-nil headerOf;
 }

@@ -23,13 +23,14 @@ use Rattle.session.specs.declared.Session.{Session}
 use Rattle.session.specs.declared.Effect.{Effect}
 use Rattle.session.specs.Effect.{Lent, After}
 use Rattle.session.specs.Stepping.{mostSteps, stopsOf, acceptedOf, stepLineOf}
-use Rattle.session.specs.Turn.{applyOf, Turn, recordBy}
+use Rattle.session.specs.Turn.{applyOf, Turn, staleOf, recordBy}
 use Rattle.session.specs.Pass.{readyOf, readyIn, Replay, turnBy, turnOn}
 use Rattle.session.proofs.Records.{inside}
 use Rattle.whole.specs.Listing.{mostTurns}
 
 -- turns that may still come with `left` bytes to read
 abbrev measure : ℕ → Mode → ℕ
+measure left modes.Start = suc (mostTurns * left)
 measure left modes.Records = mostTurns * left
 measure left (modes.Steps n taken) = mostTurns * left + suc (mostSteps - taken)
 measure left modes.Over = 0
@@ -77,7 +78,7 @@ module _ (s : Session) (position : ℕ) (input : List ℕ) (at : ℕ) (lent : Le
   record-less some Refused e = omega arith
   record-less some (Found r next) e =
       let i = inside input at (eqb position 0) r next e in
-      cases (λ (t : Turn). measure (length input - t .at) (t .effect .session .mode) < mostTurns * (length input - at)) (leb (r .sequence) (s .sequence)) (λ _. omega arith)
+      cases (λ (t : Turn). measure (length input - t .at) (t .effect .session .mode) < mostTurns * (length input - at)) (staleOf (s .sequence) (r .sequence) (r .body)) (λ _. omega arith)
       (λ _. apply-less next (i .0) (i .1) (r .sequence) (r .body))
 
 abbrev pub measureOf : List ℕ → Replay → ℕ
@@ -89,6 +90,7 @@ turn-less input r ready = go (r .session .mode) refl ready
   where
     go : (mode : Mode) → r .session .mode ≡ mode → readyOf mode (length input - r .at) true ≡ true
         → measureOf input (turnBy 0 input r mode) < measure (length input - r .at) mode
+    go modes.Start e f = omega arith
     go modes.Records e f =
         record-less (r .session) (0 + r .at) input (r .at) (r .lent) e (ltb-true 0 (length input - r .at) f) (readingOf input (r .at) (eqb (0 + r .at) 0)) refl
     go (modes.Steps n taken) e f = step-less (r .session) n taken (r .lent) (length input - r .at)

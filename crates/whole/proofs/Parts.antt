@@ -19,16 +19,18 @@ use Rattle.record.specs.declared.reading.Reading.{Reading}
 use Rattle.record.specs.declared.reading.Reading.the-variants.{Found, Refused}
 use Rattle.record.specs.Reading.{readingOf}
 use Rattle.record.specs.Claims.{longest, shifted}
+use Rattle.record.specs.Starts.{settingsAt}
 use Rattle.record.proofs.Claims.{claims}
+use Rattle.record.proofs.Starting.{starts}
 use Rattle.listing.specs.Line.{lineOf}
 use Rattle.session.specs.declared.Mode.{Mode}
 use Rattle.session.specs.declared.Mode.the-variants as modes
 use Rattle.session.specs.declared.Session.{Session}
 use Rattle.listing.specs.declared.word.Word.the-variants as words
-use Rattle.session.specs.Effect.{Lent, lend, After, after, textOf, badOf, withSequence}
+use Rattle.session.specs.Effect.{Lent, lend, After, after, textOf, badOf, withSequence, withMode, openingOf}
 use Rattle.session.specs.Stepping.{stepLineOf}
-use Rattle.session.specs.Turn.{DataFits, applyOf, Turn, turnAs, recordBy, recordTurnOf}
-use Rattle.session.specs.Pass.{readyOf, readyIn, Replay, replayAs, recordOn, turnBy, turnOn, turnsOf}
+use Rattle.session.specs.Turn.{DataFits, applyOf, Turn, turnAs, staleOf, recordBy, recordTurnOf}
+use Rattle.session.specs.Pass.{readyOf, readyIn, Replay, replayAs, openOn, recordOn, turnBy, turnOn, turnsOf}
 use Rattle.session.proofs.Records.{data-fits}
 use Rattle.session.proofs.Turns.{turns-kept}
 
@@ -37,7 +39,7 @@ abbrev pub seenIn : ℕ → List ℕ → Replay → Replay
 seenIn place text r = replayAs (r .session) (place + r .at) (r .lent) (text ++ r .text)
 
 -- the turn, its next place reckoned from d bytes before
-later : ℕ → Turn → Turn
+abbrev pub later : ℕ → Turn → Turn
 later d t = record { effect = t .effect; at = d + t .at; lent = t .lent }
 
 twice-shifted : (d e : ℕ) (v : Reading) → shifted (d + e) v ≡ shifted d (shifted e v)
@@ -65,6 +67,22 @@ module _ (before part after′ : List ℕ) where
       go false e =
           let room = leb-true longest (length part - at) (subst (λ (t : Bool). when t (ltb 0 (length part - at)) (leb longest (length part - at)) ≡ true) e ready) in
           claims .settled (drop at part) after′ 0 first (omega (arith, length-drop at part))
+
+  -- so does what the trace starts with
+  pub starts-part : (at : ℕ) (ended : Bool) → (ended ≡ true → after′ ≡ []) → at ≤ length part
+      → when ended (ltb 0 (length part - at)) (leb longest (length part - at)) ≡ true
+      → settingsAt (before ++ (part ++ after′)) (length before + at) ≡ settingsAt part at
+  starts-part at ended last h ready =
+      starts .dropped (before ++ (part ++ after′)) (length before + at) (omega (arith, length-append before (part ++ after′), length-append part after′))
+      ∙ ap (λ (l : List ℕ). settingsAt l 0) (drop-whole at h)
+      ∙ go ended refl
+      ∙ sym (starts .dropped part at h)
+    where
+      go : (t : Bool) → ended ≡ t → settingsAt (drop at part ++ after′) 0 ≡ settingsAt (drop at part) 0
+      go true e = ap (λ (l : List ℕ). settingsAt (drop at part ++ l) 0) (last e) ∙ ap (λ (l : List ℕ). settingsAt l 0) (append-nil (drop at part))
+      go false e =
+          let room = leb-true longest (length part - at) (subst (λ (t : Bool). when t (ltb 0 (length part - at)) (leb longest (length part - at)) ≡ true) e ready) in
+          starts .settled (drop at part) after′ 0 (omega (arith, length-drop at part))
 
   -- a record's data are the part's
   data-part : (at count : ℕ) → at + 12 + count ≤ length part
@@ -96,9 +114,8 @@ module _ (before part after′ : List ℕ) where
     record-part : (at : ℕ) (v : Reading) → readingOf part at (eqb position 0) ≡ v
         → recordBy s position (before ++ (part ++ after′)) (length before + at) lent (shifted (length before) v)
         ≡ later (length before) (recordBy s position part at lent v)
-    unfolding later
     record-part at Refused e = refl
-    record-part at (Found r n) e = go (leb (r .sequence) (s .sequence))
+    record-part at (Found r n) e = go (staleOf (s .sequence) (r .sequence) (r .body))
       where
         refused : After
         refused = after (badOf s (numberOf answers.Sequence) position) lent
@@ -110,15 +127,15 @@ module _ (before part after′ : List ℕ) where
         go true = refl
         go false = ap (λ (a : After). turnAs a (length before + n)) (apply-part (r .sequence) at (r .body) (data-fits part at (eqb position 0) r n e))
 
-    reading-turn : (at : ℕ) (ended : Bool) → (ended ≡ true → after′ ≡ []) → at ≤ length part → readyOf modes.Records (length part - at) ended ≡ true
+    pub reading-turn : (at : ℕ) (ended : Bool) → (ended ≡ true → after′ ≡ []) → at ≤ length part → readyOf modes.Records (length part - at) ended ≡ true
         → recordTurnOf s position (before ++ (part ++ after′)) (length before + at) lent ≡ later (length before) (recordTurnOf s position part at lent)
     reading-turn at ended last h e =
         ap (recordBy s position (before ++ (part ++ after′)) (length before + at) lent) (reading-part at ended (eqb position 0) last h e)
         ∙ record-part at (readingOf part at (eqb position 0)) refl
 
-  on-part : (text : List ℕ) (ended : Bool) (r : Replay) → (ended ≡ true → after′ ≡ []) → r .at ≤ length part → readyIn part ended r ≡ true
+  pub on-part : (text : List ℕ) (ended : Bool) (r : Replay) → (ended ≡ true → after′ ≡ []) → r .at ≤ length part → readyIn part ended r ≡ true
       → turnOn 0 (before ++ (part ++ after′)) (seenIn (length before) text r) ≡ seenIn (length before) text (turnOn (length before) part r)
-  unfolding turnOn later
+  unfolding turnOn
   on-part text ended r last h ready = go (r .session .mode) ready
     where
       place : 0 + (length before + r .at) ≡ length before + r .at
@@ -126,6 +143,9 @@ module _ (before part after′ : List ℕ) where
 
       go : (mode : Mode) → readyOf mode (length part - r .at) ended ≡ true
           → turnBy 0 (before ++ (part ++ after′)) (seenIn (length before) text r) mode ≡ seenIn (length before) text (turnBy (length before) part r mode)
+      go modes.Start e =
+          ap (openOn (seenIn (length before) text r)) (starts-part (r .at) ended last h e)
+          ∙ ap (replayAs (withMode (r .session) modes.Records) (length before + r .at) (r .lent)) (append-assoc text (r .text) (openingOf (r .session) (settingsAt part (r .at))))
       go modes.Records e =
           let t = recordTurnOf (r .session) (length before + r .at) part (r .at) (r .lent) in
           ap (recordOn (seenIn (length before) text r))

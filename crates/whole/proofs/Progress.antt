@@ -1,27 +1,29 @@
--- A pass that can take a turn puts a byte: a turn puts a line, or is an ST's, whose lines come next.
+-- A pass that can take a turn puts a byte: a turn puts a line, or is silent, as a CF's opening and an ST are, and then the
+-- next one can be taken too.
 use mathlib.Core.Path.{_≡_, refl, sym, ap, subst, _∙_}
 use mathlib.Core.Logic.{_⊎_, inl, inr, ⊎-elim}
 use Prim.Native.Nat.{ℕ, zero, suc, _+_, _-_, _≤_, _<_}
 use mathlib.Core.Bool.{Bool, true, false}
-use mathlib.Core.List.{List}
+use mathlib.Core.List.{List, [], _++_}
 use native.Mathlib.Omega.{arith}
 use lib.ListN.{length, length-append}
 use lib.Dec.{leb}
 use borrow.Author.Tests.{le-leb, leb-true}
 use Rattle.kit.specs.Choice.{both}
 use Rattle.kit.proofs.Choice.{never, both-left, both-right, both-join}
+use Rattle.listing.specs.declared.line.Line.{Line}
 use Rattle.listing.specs.Line.{lineOf}
 use Rattle.listing.proofs.Lines.{line-some}
+use Rattle.record.specs.Starts.{settingsAt}
 use Rattle.session.specs.declared.Mode.{Mode}
 use Rattle.session.specs.declared.Mode.the-variants as modes
 use Rattle.session.specs.declared.Session.{Session}
 use Rattle.session.specs.declared.Passed.{Passed}
-use Rattle.session.specs.Effect.{underWay, textOf}
+use Rattle.session.specs.Effect.{textOf, settingsLineOf, openingOf}
 use Rattle.session.specs.Stepping.{stepLineOf}
 use Rattle.session.specs.Turn.{Turn, recordTurnOf}
-use Rattle.session.specs.Pass.{readyOf, readyIn, Replay, begin, turnBy, turnOn, turnsOf, lineRoom, goesOn, Passes}
+use Rattle.session.specs.Pass.{readyOf, readyIn, Replay, begin, openOn, turnBy, turnOn, turnsOf, lineRoom, goesOn, Passes}
 use Rattle.session.proofs.Turns.{turns-join}
-use Rattle.session.proofs.RecordTurns.{ready-any}
 
 module _ (base : ℕ) (input : List ℕ) where
   grows : (r : Replay) → length (r .text) ≤ length (turnOn base input r .text)
@@ -29,6 +31,7 @@ module _ (base : ℕ) (input : List ℕ) where
   grows r = go (r .session .mode)
     where
       go : (mode : Mode) → length (r .text) ≤ length (turnBy base input r mode .text)
+      go modes.Start = omega (arith, length-append (r .text) (openingOf (r .session) (settingsAt input (r .at))))
       go modes.Records =
           let t = recordTurnOf (r .session) (base + r .at) input (r .at) (r .lent) in
           omega (arith, length-append (r .text) (textOf (t .effect .session .mode) (t .effect .line)))
@@ -40,68 +43,56 @@ module _ (base : ℕ) (input : List ℕ) where
   all-grow zero r = omega arith
   all-grow (suc n) r = omega (arith, all-grow n r, grows (turnsOf n base input r))
 
-  -- a turn puts a byte, or an ST is under way after it and the text is as long as before
-  tells : (ended : Bool) (r : Replay) → readyIn input ended r ≡ true
-      → (length (r .text) < length (turnOn base input r .text)) ⊎ ((underWay (turnOn base input r .session .mode) ≡ true) × (length (turnOn base input r .text) ≡ length (r .text)))
+  -- x puts a byte after r, or is silent and can go on
+  abbrev Tells : Bool → Replay → Replay → Type 0
+  Tells ended r x = (length (r .text) < length (x .text)) ⊎ ((readyIn input ended x ≡ true) × (length (x .text) ≡ length (r .text)))
+
+  tells : (ended : Bool) (r : Replay) → readyIn input ended r ≡ true → Tells ended r (turnOn base input r)
   unfolding turnOn
   tells ended r ready = go (r .session .mode) ready
     where
-      go : (mode : Mode) → readyOf mode (length input - r .at) ended ≡ true
-          → (length (r .text) < length (turnBy base input r mode .text)) ⊎ ((underWay (turnBy base input r mode .session .mode) ≡ true) × (length (turnBy base input r mode .text) ≡ length (r .text)))
+      longer : (l : Line) → length (r .text) < length (r .text ++ lineOf l)
+      longer l = omega (arith, length-append (r .text) (lineOf l), line-some l)
+
+      same : length (r .text ++ []) ≡ length (r .text)
+      same = omega (arith, length-append (r .text) [])
+
+      opens : readyOf modes.Records (length input - r .at) ended ≡ true → (settings : Bool) → Tells ended r (openOn r settings)
+      opens e true = inr (e, same)
+      opens e false = inl (longer (settingsLineOf (r .session .sequence) (r .session .engine .settings .width) (r .session .engine .settings .beats)))
+
+      go : (mode : Mode) → readyOf mode (length input - r .at) ended ≡ true → Tells ended r (turnBy base input r mode)
+      go modes.Start e = opens e (settingsAt input (r .at))
       go modes.Records e = by (t .effect .session .mode) refl
         where
           t : Turn
           t = recordTurnOf (r .session) (base + r .at) input (r .at) (r .lent)
 
-          by : (mode : Mode) → t .effect .session .mode ≡ mode
-              → (length (r .text) < length (turnBy base input r modes.Records .text)) ⊎ ((underWay (t .effect .session .mode) ≡ true) × (length (turnBy base input r modes.Records .text) ≡ length (r .text)))
-          by modes.Records f =
-              inl (omega (arith, length-append (r .text) (textOf (t .effect .session .mode) (t .effect .line)), ap (λ (m : Mode). length (textOf m (t .effect .line))) f, line-some (t .effect .line)))
-          by (modes.Steps left taken) f =
-              inr (ap underWay f, omega (arith, length-append (r .text) (textOf (t .effect .session .mode) (t .effect .line)), ap (λ (m : Mode). length (textOf m (t .effect .line))) f))
-          by modes.Over f =
-              inl (omega (arith, length-append (r .text) (textOf (t .effect .session .mode) (t .effect .line)), ap (λ (m : Mode). length (textOf m (t .effect .line))) f, line-some (t .effect .line)))
-      go (modes.Steps left taken) e =
-          let l = stepLineOf (r .session) left taken (r .lent) .effect .line in
-          inl (omega (arith, length-append (r .text) (lineOf l), line-some l))
-      go modes.Over e = absurd (never e)
+          read-as : {m : Mode} → t .effect .session .mode ≡ m → length (r .text ++ textOf (t .effect .session .mode) (t .effect .line)) ≡ length (r .text ++ textOf m (t .effect .line))
+          read-as f = ap (λ (m : Mode). length (r .text ++ textOf m (t .effect .line))) f
 
-  steps-tell : (r : Replay) → underWay (r .session .mode) ≡ true → length (r .text) < length (turnOn base input r .text)
-  unfolding turnOn
-  steps-tell r way = go (r .session .mode) way
-    where
-      go : (mode : Mode) → underWay mode ≡ true → length (r .text) < length (turnBy base input r mode .text)
-      go modes.Records e = absurd (never e)
-      go (modes.Steps left taken) e =
-          let l = stepLineOf (r .session) left taken (r .lent) .effect .line in
-          omega (arith, length-append (r .text) (lineOf l), line-some l)
+          by : (mode : Mode) → t .effect .session .mode ≡ mode → Tells ended r (turnBy base input r modes.Records)
+          by modes.Start f = inl (omega (arith, read-as f, longer (t .effect .line)))
+          by modes.Records f = inl (omega (arith, read-as f, longer (t .effect .line)))
+          by (modes.Steps left taken) f = inr (ap (λ (m : Mode). readyOf m (length input - t .at) ended) f, read-as f ∙ same)
+          by modes.Over f = inl (omega (arith, read-as f, longer (t .effect .line)))
+      go (modes.Steps left taken) e = inl (longer (stepLineOf (r .session) left taken (r .lent) .effect .line))
       go modes.Over e = absurd (never e)
 
   some-taken : (room : ℕ) (ended : Bool) (n : ℕ) (r : Replay) → goesOn room input ended r ≡ true → goesOn room input ended (turnsOf n base input r) ≡ false
       → length (r .text) < length (turnsOf n base input r .text)
   unfolding turnsOf
   some-taken room ended zero r go stop = absurd (never (sym stop ∙ go))
-  some-taken room ended (suc zero) r go stop =
-      ⊎-elim {C = length (r .text) < length (turnOn base input r .text)} (λ h. h)
-      (λ h. absurd (never (sym stop
-      ∙ both-join
-      (le-leb (length (turnOn base input r .text) + lineRoom) room
-      (omega (arith, h .1, leb-true (length (r .text) + lineRoom) room (both-left (leb (length (r .text) + lineRoom) room) (readyIn input ended r) go))))
-      (ready-any (turnOn base input r .session .mode) (length input - turnOn base input r .at) ended (h .0)))))
-      (tells ended r (both-right (leb (length (r .text) + lineRoom) room) (readyIn input ended r) go))
-  some-taken room ended (suc (suc n)) r go stop =
+  some-taken room ended (suc n) r go stop =
       let first = turnOn base input r in
-      let second = turnOn base input first in
-      let two : length (r .text) < length (second .text) =
-      ⊎-elim {C = length (r .text) < length (second .text)} (λ h. omega (arith, grows first)) (λ h. omega (arith, h .1, steps-tell first (h .0)))
-      (tells ended r (both-right (leb (length (r .text) + lineRoom) room) (readyIn input ended r) go)) in
-      let same : 2 + n ≡ suc (suc n) = omega arith in
-      omega (
-        arith,
-        two,
-        all-grow n second,
-        ap (λ (x : Replay). length (x .text)) (sym (ap (λ (k : ℕ). turnsOf k base input r) same) ∙ turns-join 2 n base input r),
-      )
+      let one : 1 + n ≡ suc n = omega arith in
+      let later : turnsOf (suc n) base input r ≡ turnsOf n base input first = sym (ap (λ (k : ℕ). turnsOf k base input r) one) ∙ turns-join 1 n base input r in
+      let length-later = ap (λ (x : Replay). length (x .text)) later in
+      ⊎-elim {C = length (r .text) < length (turnsOf (suc n) base input r .text)} (λ h. omega (arith, all-grow n first, length-later))
+      (λ h. let free = leb-true (length (r .text) + lineRoom) room (both-left (leb (length (r .text) + lineRoom) room) (readyIn input ended r) go) in
+      let on : goesOn room input ended first ≡ true = both-join (le-leb (length (first .text) + lineRoom) room (omega (arith, h .1, free))) (h .0) in
+      omega (arith, h .1, some-taken room ended n first on (subst (λ (x : Replay). goesOn room input ended x ≡ false) later stop), length-later))
+      (tells ended r (both-right (leb (length (r .text) + lineRoom) room) (readyIn input ended r) go))
 
 -- a pass that can take a turn puts a byte
 pub pass-puts : {s : Session} {base : ℕ} {input : List ℕ} {ended : Bool} {m w out : List ℕ} {r : Passed} {m′ w′ out′ : List ℕ}

@@ -38,7 +38,7 @@ use Rattle.session.specs.declared.Effect.{Effect}
 use Rattle.session.specs.declared.Passed.{Passed}
 use Rattle.session.specs.Effect.{startOf, Lent, After}
 use Rattle.session.specs.Stepping.{usedOf, stopsOf, acceptedOf, stepLineOf}
-use Rattle.session.specs.Turn.{applyOf, Turn, recordBy}
+use Rattle.session.specs.Turn.{applyOf, Turn, staleOf, recordBy}
 use Rattle.session.specs.Pass.{readyOf, lineRoom, Replay, begin, turnBy, turnOn, turnsOf, Passes}
 use Rattle.session.proofs.Turns.{both-no}
 use Rattle.session.proofs.Unique.{pass-unique}
@@ -50,7 +50,7 @@ start : SoundIn startOf startMemory startWindows
 unfolding legalWidth legalBeats
 start = record {
   legal = refl;
-  well = fresh-well-formed (record { width = 4; beats = 16 });
+  well = fresh-well-formed (record { width = 4; beats = 64 });
   source = omega arith;
   destination = omega arith;
   few = omega arith;
@@ -172,7 +172,7 @@ module _ (s : Session) (position : ℕ) (input : List ℕ) (at : ℕ) (lent : Le
       → SoundAs (recordBy s position input at lent v .effect .session) (recordBy s position input at lent v .lent)
   record-sound Refused e = h
   record-sound (Found r next) e =
-      cases (λ (t : Turn). SoundAs (t .effect .session) (t .lent)) (leb (r .sequence) (s .sequence)) (λ _. h)
+      cases (λ (t : Turn). SoundAs (t .effect .session) (t .lent)) (staleOf (s .sequence) (r .sequence) (r .body)) (λ _. h)
       (λ _. apply-sound (r .sequence) (r .body) (claims .ranges input at (eqb position 0) r next held e .1))
 
 abbrev SoundAt : Replay → Type 0
@@ -183,6 +183,7 @@ unfolding turnOn
 turn-sound base input held r h = go (r .session .mode)
   where
     go : (mode : Mode) → SoundAt (turnBy base input r mode)
+    go modes.Start = h
     go modes.Records = record-sound (r .session) (base + r .at) input (r .at) (r .lent) held h (readingOf input (r .at) (eqb (base + r .at) 0)) refl
     go (modes.Steps n taken) = step-sound (r .session) n taken (r .lent) h
     go modes.Over = h

@@ -33,9 +33,9 @@ listFrom (suc n) input r = elim (readyIn input true r) [ true ↦ listFrom n inp
 abbrev pub mostTurns : ℕ
 mostTurns = mostSteps + 2
 
--- the header, and the lines of the turns; a record has a byte at least
+-- the header, and the lines of the turns: one comes before the first record, and a record has a byte at least
 unfoldable pub listingOf : List ℕ → List ℕ
-listingOf input = headerOf ++ listFrom (mostTurns * length input) input atStart
+listingOf input = headerOf ++ listFrom (suc (mostTurns * length input)) input atStart
 
 -- ---- replays
 
@@ -53,6 +53,6 @@ pub record Listing : Type 0 where
   pub whole : (input : List ℕ) (place : ℕ) (s : Session) (m w text : List ℕ) → Replays input place s m w text
       → readyOf (s .mode) (length input - place) true ≡ false → text ≡ listingOf input
   -- more turns would change nothing: the listing is not cut off
-  pub enough : (input : List ℕ) (k : ℕ) → headerOf ++ listFrom (mostTurns * length input + k) input atStart ≡ listingOf input
+  pub enough : (input : List ℕ) (k : ℕ) → headerOf ++ listFrom (suc (mostTurns * length input) + k) input atStart ≡ listingOf input
   -- empty input prints the header alone
   pub empty : listingOf [] ≡ headerOf

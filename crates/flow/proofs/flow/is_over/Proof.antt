@@ -22,6 +22,9 @@ enum-told-2 c = search needs
 enum-told-3 : tie.Need-enum-told-3
 enum-told-3 c = search needs
 
+enum-told-4 : tie.Need-enum-told-4
+enum-told-4 c = search needs
+
 returns-2 : tie.Need-returns-2
 returns-2 c =
     let a = c .before .before .before .args in
@@ -42,7 +45,17 @@ returns-5 c =
     let a = c .before .before .before .before .args in
     yes {t = a .sent} true (not-false (a .sent) (c .before .before .before .if1 .left)) (no _ (c .if2 .left) refl ∙ ap (λ (m : Mode). finishedOf m (a .left) (a .ended)) (sym (c .before .enum-told3 .given .1)))
 
+returns-6 : tie.Need-returns-6
+returns-6 c =
+    let a = c .before .before .before .before .args in
+    yes {t = a .sent} true (not-false (a .sent) (c .before .before .before .if1 .left)) (yes _ (c .if3 .taken) refl ∙ ap (λ (m : Mode). finishedOf m (a .left) (a .ended)) (sym (c .before .enum-told4 .given .1)))
+
+returns-7 : tie.Need-returns-7
+returns-7 c =
+    let a = c .before .before .before .before .args in
+    yes {t = a .sent} true (not-false (a .sent) (c .before .before .before .if1 .left)) (no _ (c .if3 .left) refl ∙ ap (λ (m : Mode). finishedOf m (a .left) (a .ended)) (sym (c .before .enum-told4 .given .1)))
+
 pub is-over-spec : {M : Type 1} → statement M
 is-over-spec =
     tie.close
-    (tie.spec returns enum-told enum-told-2 enum-told-3 returns-2 returns-3 returns-4 returns-5)
+    (tie.spec returns enum-told enum-told-2 enum-told-3 enum-told-4 returns-2 returns-3 returns-4 returns-5 returns-6 returns-7)

@@ -4,7 +4,6 @@ use mathlib.Core.List.{List}
 use Prim.Native.Nat.{ℕ, _+_}
 use native.Mathlib.Omega.{arith}
 use borrow.Author.Needs.{needs}
-use borrow.Author.Tests.{le-leb}
 use denote.Ref.{now}
 use Rattle.kit.proofs.Choice.{yes}
 use Rattle.digits.proofs.Puts.{puts-length}
@@ -19,7 +18,7 @@ use Rattle.records.proofs.Singles.{takes-turn, takes-single}
 use Rattle.records.proofs.records.records.Statement.{statement}
 use Rattle.records.proofs.records.records.Tie as tie
 
--- a record was found, and its sequence number is above the last one
+-- a record was found, and its sequence number is not stale
 module _ (c : tie.Else1) where
   order : InOrder (c .before .before .before .before .before .before .before .before .before .before .args .base)
       (now (c .before .before .before .before .before .before .before .before .before .before .args .input))
@@ -29,7 +28,7 @@ module _ (c : tie.Else1) where
       (c .before .before .before .reading .given .0 .0 .sequence) (c .before .before .before .reading .given .0 .0 .body) (c .before .before .before .reading .given .0 .1 .0)
   order = record {
     read = sym (c .before .before .before .before .before .read .ensures) ∙ c .before .before .before .reading .given .1;
-    rises = c .if1 .left;
+    rises = sym (c .before .stale .ensures) ∙ c .if1 .left;
     mode = c .before .before .before .before .before .before .before .before .before .before .pre .0 .0;
     ready = c .before .before .before .before .before .before .before .before .before .before .pre .0 .1;
   }
@@ -83,6 +82,9 @@ returns c =
     takes-turn (c .before .before .before .before .before .before .before .before .before .before .before .pre .0 .0) (c .before .before .before .before .before .before .before .before .before .before .before .pre .0 .1) (c .before .before .before .before .before .before .before .before .before .before .before .pre .1 .1 .1 .1) (c .before .before .refuse .ensures)
     (ap (recordBy (a .session) (a .base + a .at) (now (a .input)) (a .at) (lend (now (a .memory)) (now (a .windows)))) (sym (c .before .before .before .before .enum-told .given .1) ∙ c .before .before .before .before .before .before .read .ensures))
 
+stale-requires : tie.Need-stale-requires
+stale-requires c κs = search needs
+
 refuse-requires-2 : tie.Need-refuse-requires-2
 refuse-requires-2 c κs = (c .before .before .before .before .before .before .before .before .before .before .before .pre .1 .1 .1 .0, c .before .before .before .before .before .before .before .before .before .before .before .pre .1 .1 .1 .1)
 
@@ -93,7 +95,7 @@ returns-2 : tie.Need-returns-2
 returns-2 c =
     let a = c .before .before .before .before .before .before .before .before .before .before .before .before .before .before .args in
     takes-turn (c .before .before .before .before .before .before .before .before .before .before .before .before .before .before .pre .0 .0) (c .before .before .before .before .before .before .before .before .before .before .before .before .before .before .pre .0 .1) (c .before .before .before .before .before .before .before .before .before .before .before .before .before .before .pre .1 .1 .1 .1) (c .before .before .refuse2 .ensures)
-    (yes _ (le-leb _ _ (c .before .before .before .before .if1 .taken)) refl
+    (yes _ (sym (c .before .before .before .before .before .stale .ensures) ∙ c .before .before .before .before .if1 .taken) refl
     ∙ ap (recordBy (a .session) (a .base + a .at) (now (a .input)) (a .at) (lend (now (a .memory)) (now (a .windows)))) (sym (c .before .before .before .before .before .before .before .reading .given .1) ∙ c .before .before .before .before .before .before .before .before .before .read .ensures))
 
 enum-known-body : tie.Need-enum-known-body
@@ -200,6 +202,7 @@ records-spec =
     refuse-requires
     same-length
     returns
+    stale-requires
     refuse-requires-2
     same-length-2
     returns-2

@@ -16,7 +16,7 @@ Inv-loop base input ended memory₀ windows₀ leading padded out₀ last sessio
     Passing (length out₀) base input ended session₀ 0 (lend memory₀ windows₀) out₀ 0 session at (lend memory windows) out put
 
 abbrev μ-loop : tie.MeasureT-loop
-μ-loop base input ended memory₀ windows₀ leading padded out₀ last session₀ at₀ put₀ memory windows out session at put = 2 * (length out₀ - put) + weight (session .mode)
+μ-loop base input ended memory₀ windows₀ leading padded out₀ last session₀ at₀ put₀ memory windows out session at put = 3 * (length out₀ - put) + weight (session .mode)
 
 returns : tie.Need-returns Inv-loop μ-loop
 returns c =

@@ -7,6 +7,8 @@ use crate::monitor::Clock;
 pub const LONGEST: usize = 6 + 6 + MOST_BYTES as usize;
 /// The most bytes of one MM record.
 const MOST_BYTES: u16 = 1024;
+/// The mark of the record that sets width and beats.
+pub(crate) const SETTINGS_MARK: [u8; 2] = *b"CF";
 
 /// The body of a record; the bytes of an MM may be lent or owned.
 #[derive(Clone, Debug, PartialEq, Eq)]
@@ -137,6 +139,12 @@ impl<'a> Taker<'a> for HandBack {
     }
 }
 
+/// Does a trace start with CF? Reading: the two bytes decide, whatever is behind them.
+#[inline]
+pub(crate) fn starts_with_settings(trace: &[u8]) -> bool {
+    trace.starts_with(&SETTINGS_MARK)
+}
+
 /// Reads the record at the front, or says why it gets answer 10. `first` says that it is the
 /// trace's first.
 pub fn read(trace: &[u8], first: bool) -> Result<Parts<'_>, Cause> {
@@ -155,7 +163,7 @@ pub(crate) fn read_to<'a, T: Taker<'a>>(
     };
     let sequence = u32_at(head, 2);
     match [head[0], head[1]] {
-        [b'C', b'F'] => {
+        SETTINGS_MARK => {
             if !first {
                 return Err(Cause::LateSettings);
             }

@@ -11,9 +11,10 @@ use std::io::{self, ErrorKind, Read, Write};
 
 /// Bytes of the program's memory.
 pub const MEMORY: usize = 32_768;
-/// Settings of a trace without a CF.
-const WIDTH: u32 = 4;
-const BEATS: u32 = 16;
+/// Settings of a trace without a CF, and the beats that such a trace had by the older rules.
+pub(crate) const WIDTH: u32 = 4;
+const BEATS: u32 = 64;
+pub(crate) const OLDER_BEATS: u32 = 16;
 /// Bytes that a stream is read in.
 const PIECE: usize = 64 * 1024;
 
@@ -22,6 +23,8 @@ pub trait Observer {
     /// Steps are told one by one only to an observer that looks at them.
     const LOOKS_AT_STEPS: bool = true;
 
+    /// The trace does not start with CF and got the default settings with their line.
+    fn defaulted(&mut self, _replay: &Replay) {}
     /// A record that can be read and has a good number, before it is carried out.
     fn record(&mut self, _replay: &Replay, _record: &Record<&[u8]>) {}
     /// The same record after it was carried out.
@@ -39,6 +42,15 @@ impl Observer for () {
     const LOOKS_AT_STEPS: bool = false;
 }
 
+/// Which rules a replay follows.
+#[derive(Clone, Copy, PartialEq, Eq)]
+enum Rules {
+    /// The default settings have a line, and a CF may carry 0.
+    Current,
+    /// The default settings have no line, and no record may carry 0.
+    Older,
+}
+
 /// What a replay holds between records.
 pub struct Replay {
     pub engine: Engine,
@@ -47,6 +59,7 @@ pub struct Replay {
     pub last: u32,
     /// Where the next record starts in the trace.
     pub place: u64,
+    rules: Rules,
     used_windows: usize,
     windows: [Window; MOST_WINDOWS],
     pub memory: [u8; MEMORY],
@@ -54,11 +67,21 @@ pub struct Replay {
 
 impl Replay {
     pub fn fresh() -> Replay {
+        Replay::by(Rules::Current, BEATS)
+    }
+
+    /// A fresh replay by the older rules.
+    pub(crate) fn older() -> Replay {
+        Replay::by(Rules::Older, OLDER_BEATS)
+    }
+
+    fn by(rules: Rules, beats: u32) -> Replay {
         Replay {
-            engine: Engine::fresh(WIDTH, BEATS),
+            engine: Engine::fresh(WIDTH, beats),
             monitor: Monitor::fresh(),
             last: 0,
             place: 0,
+            rules,
             used_windows: 0,
             windows: [(0, 0); MOST_WINDOWS],
             memory: [0; MEMORY],
@@ -106,9 +129,32 @@ impl Replay {
         observer: &mut impl Observer,
     ) -> Result<&'a [u8], u32> {
         let first = self.place == 0;
+        if first && !record::starts_with_settings(trace) {
+            self.list_default(listing, observer);
+        }
         // Reading: 10 (also cut short, late CF) before 11, and 11 before the record's own.
         let taking = Taking { replay: self, listing, observer };
         record::read_to(taking, trace, first).unwrap_or(Err(answer::RECORD))
+    }
+
+    /// Lists the settings that a fresh replay has. Reading: a trace that does not start with the
+    /// two bytes CF gets this line even if its first record is then refused.
+    #[cold]
+    fn list_default<To: Write>(&mut self, listing: &mut Listing<To>, observer: &mut impl Observer) {
+        if self.rules == Rules::Current {
+            listing.number(0);
+            listing.line(listing::SET, self.engine.width, self.engine.beats);
+            observer.defaulted(self);
+        }
+    }
+
+    /// Is this number good for this record? A CF comes first of all, so no number is too low for
+    /// it but, by the older rules, 0.
+    #[inline(always)]
+    fn follows(&self, sequence: u32, record: &Record<&[u8]>) -> bool {
+        let may_carry_zero =
+            matches!(record, Record::Settings { .. }) && self.rules == Rules::Current;
+        sequence > self.last || may_carry_zero
     }
 
     /// Carries out one record with its lines. An answer but 0 ends the replay; refused WR and RD
@@ -215,7 +261,7 @@ impl<'a, To: Write, Looking: Observer> Taker<'a> for Taking<'_, To, Looking> {
     fn take(self, sequence: u32, record: Record<&'a [u8]>, behind: &'a [u8]) -> Self::Given {
         let Taking { replay, listing, observer } = self;
         // Reading: a WR or RD with an old number is 11 too, and ends the replay.
-        if sequence <= replay.last {
+        if !replay.follows(sequence, &record) {
             return Err(answer::SEQUENCE);
         }
         observer.record(replay, &record);
@@ -239,16 +285,34 @@ pub fn replay(trace: &[u8], output: &mut Vec<u8>) -> bool {
 
 /// The same, with an observer.
 pub fn replay_before(trace: &[u8], output: &mut Vec<u8>, observer: &mut impl Observer) -> bool {
+    list(Replay::fresh(), trace, output, observer)
+}
+
+/// Replays a trace that is read piece by piece, and writes its listing: sound or not.
+pub fn replay_stream(input: impl Read, output: impl Write) -> io::Result<bool> {
+    list_stream(Replay::fresh(), input, output)
+}
+
+/// Lists a whole trace by the rules of a fresh replay.
+pub(crate) fn list(
+    mut replay: Replay,
+    trace: &[u8],
+    output: &mut Vec<u8>,
+    observer: &mut impl Observer,
+) -> bool {
     let mut listing = Listing::new(output);
-    let sound = Replay::fresh().take(trace, true, &mut listing, observer).is_some();
+    let sound = replay.take(trace, true, &mut listing, observer).is_some();
     listing.end().expect("a vector takes all");
     sound
 }
 
-/// Replays a trace that is read piece by piece, and writes its listing: sound or not.
-pub fn replay_stream(mut input: impl Read, output: impl Write) -> io::Result<bool> {
+/// The same for a trace that is read piece by piece.
+pub(crate) fn list_stream(
+    mut replay: Replay,
+    mut input: impl Read,
+    output: impl Write,
+) -> io::Result<bool> {
     let mut listing = Listing::new(output);
-    let mut replay = Replay::fresh();
     let mut held = vec![0; PIECE];
     let mut left = 0;
     let mut sound = true;

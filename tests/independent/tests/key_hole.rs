@@ -1116,7 +1116,7 @@ fn a_trace_drains_and_fills_queues() {
 
 #[test]
 fn a_trace_of_pieces() {
-    // Without a CF: W=4, L=16.
+    // Without a CF: W=4, L=64, and a piece has sixteen beats.
     let trace = Trace::new()
         .mm(1, 257, &counted(148))
         .wr(2, 0, WRITE)
@@ -1127,7 +1127,7 @@ fn a_trace_of_pieces() {
         .st(7, 9);
     let memory = lists(
         &trace,
-        "1 memory 257 148\n2 write 0 0\n3 write 24 0\n4 write 32 0\n5 write 40 0\n\
+        "0 set 4 64\n1 memory 257 148\n2 write 0 0\n3 write 24 0\n4 write 32 0\n5 write 40 0\n\
          6 move 4092 64\n6 move 4092 64\n6 stop 2 0\n7 move 4092 20\n7 stop 1 1\n",
     );
     assert_eq!(memory[4091..4097], [0, 145, 146, 147, 148, 0]);
@@ -1142,23 +1142,28 @@ fn a_trace_of_pieces() {
         .rd(7, 4);
     lists(
         &trace,
-        "1 window 330 1\n2 write 0 0\n3 write 24 0\n4 write 32 0\n5 write 40 0\n\
+        "0 set 4 64\n1 window 330 1\n2 write 0 0\n3 write 24 0\n4 write 32 0\n5 write 40 0\n\
          6 move 4092 64\n6 fault 4092 5\n6 stop 2 1\n7 read 4 81962\n",
     );
     // A queue past the program's memory: bit 6.
     let trace = Trace::new().wr(1, 0, BOTH).wr(2, 32, 32768).wr(3, 40, 148).st(4, 9);
-    lists(&trace, "1 write 0 0\n2 write 32 0\n3 write 40 0\n4 fault 32768 6\n4 stop 1 1\n");
+    lists(
+        &trace,
+        "0 set 4 64\n1 write 0 0\n2 write 32 0\n3 write 40 0\n4 fault 32768 6\n4 stop 1 1\n",
+    );
     // And one that is its last word.
     let trace = Trace::new().wr(1, 0, BOTH).wr(2, 32, 32764).wr(3, 40, 68).st(4, 9);
     lists(
         &trace,
-        "1 write 0 0\n2 write 32 0\n3 write 40 0\n4 move 32764 64\n4 move 32764 4\n4 stop 2 1\n",
+        "0 set 4 64\n1 write 0 0\n2 write 32 0\n3 write 40 0\n\
+         4 move 32764 64\n4 move 32764 4\n4 stop 2 1\n",
     );
 }
 
 #[test]
 fn a_trace_of_a_chain() {
     let trace = Trace::new()
+        .cf(0, 4, 16)
         .mm(1, 64, &descriptor(128, 1024, 2050, 72, 0))
         .mm(2, 128, &descriptor(192, 1025, 3000, 8, 0))
         .mm(3, 1024, &[1, 2, 3, 4])
@@ -1174,7 +1179,7 @@ fn a_trace_of_a_chain() {
         .rd(13, 0);
     let memory = lists(
         &trace,
-        "1 memory 64 32\n2 memory 128 32\n3 memory 1024 4\n4 write 0 0\n5 write 8 0\n\
+        "0 set 4 16\n1 memory 64 32\n2 memory 128 32\n3 memory 1024 4\n4 write 0 0\n5 write 8 0\n\
          6 write 16 0\n7 write 0 4\n8 write 0 4\n9 write 0 4\n\
          10 fetch 64 0\n10 move 2050 62\n10 move 2112 10\n10 update 64 2147483648\n\
          10 fetch 128 0\n10 update 128 268435456\n10 stop 6 1\n11 read 4 86042\n\

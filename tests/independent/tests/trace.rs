@@ -3,28 +3,36 @@
 
 mod common;
 
-use common::{descriptor, Trace, VALID};
+use common::{damage, descriptor, some_trace, Pieces, Trace, HEADER, VALID};
 use independent::answer;
 use independent::engine::{Engine, Event, Phase};
 use independent::monitor::{Clock, Monitor};
+use independent::older;
 use independent::record::Record;
 use independent::trace::{replay, replay_before, replay_stream, Observer, Replay};
 use shared::random::Random;
-use shared::settings::{BEATS, WIDTHS};
 use std::io::{self, Read, Write};
 
-const HEADER: &str = "seq event first second\n";
-
-/// The listing without its header, and whether it is sound.
+/// The listing without its header and the line of the default settings, and whether it is sound.
 fn listing(trace: &Trace) -> (String, bool) {
     let mut output = Vec::new();
     let sound = replay(&trace.0, &mut output);
     let text = String::from_utf8(output).unwrap();
-    let lines = text.strip_prefix(HEADER).unwrap().to_string();
+    let start = format!("{HEADER}{}", default_line(&trace.0));
+    let lines = text.strip_prefix(&start).unwrap().to_string();
     assert!(lines.is_empty() || lines.ends_with('\n'));
     let ends_bad = lines.lines().last().is_some_and(|line| line.split(' ').nth(1) == Some("bad"));
     assert_eq!(sound, !ends_bad);
     (lines, sound)
+}
+
+/// A trace that is not empty and does not start with CF has a line for W=4, L=64.
+fn default_line(trace: &[u8]) -> &'static str {
+    if trace.is_empty() || trace.starts_with(b"CF") {
+        ""
+    } else {
+        "0 set 4 64\n"
+    }
 }
 
 fn good(trace: &Trace, expected: &str) {
@@ -64,9 +72,9 @@ fn settings() {
     for (width, beats) in [(0, 16), (4, 0), (256, 16), (4, 512), (5, 16), (4, 65535)] {
         bad(&Trace::new().cf(7, width, beats).st(8, 1), "0 bad 1 0\n");
     }
-    // Without a CF: W=4, L=16, and no line.
-    let trace = Trace::new().wr(1, 40, 65).st(2, 9);
-    good(&trace, "1 write 40 0\n2 move 0 64\n2 move 64 1\n2 stop 2 1\n");
+    // Without a CF: W=4, L=64.
+    let trace = Trace::new().wr(1, 40, 257).st(2, 9);
+    good(&trace, "1 write 40 0\n2 move 0 256\n2 move 256 1\n2 stop 2 1\n");
     // With it, its settings: two beats of four bytes; and for the monitor's width.
     let trace = Trace::new().cf(1, 4, 2).wr(2, 40, 17).st(3, 9);
     good(&trace, "1 set 4 2\n2 write 40 0\n3 move 0 8\n3 move 8 8\n3 move 16 1\n3 stop 3 1\n");
@@ -111,16 +119,16 @@ fn windows() {
     );
     // A window counts from the next step on; MM writes whatever it says.
     let trace = Trace::new()
-        .wr(1, 40, 65)
+        .wr(1, 40, 257)
         .st(2, 1)
-        .sw(3, 64, 1)
-        .mm(4, 60, &[1, 2, 3, 4, 5])
+        .sw(3, 256, 1)
+        .mm(4, 252, &[1, 2, 3, 4, 5])
         .st(5, 1)
         .rd(6, 4);
     good(
         &trace,
-        "1 write 40 0\n2 move 0 64\n2 stop 1 0\n3 window 64 1\n4 memory 60 5\n\
-         5 fault 64 5\n5 stop 1 1\n6 read 4 81962\n",
+        "1 write 40 0\n2 move 0 256\n2 stop 1 0\n3 window 256 1\n4 memory 252 5\n\
+         5 fault 256 5\n5 stop 1 1\n6 read 4 81962\n",
     );
 }
 
@@ -158,7 +166,7 @@ fn writes_and_reads() {
 #[test]
 fn steps_of_a_chain() {
     let trace = Trace::new()
-        .mm(1, 64, &descriptor(128, 1024, 2000, 100, 0))
+        .mm(1, 64, &descriptor(128, 1024, 2000, 300, 0))
         .mm(2, 128, &descriptor(192, 1024, 3000, 0, 0))
         .wr(3, 0, 8)
         .wr(4, 8, 64)
@@ -171,8 +179,8 @@ fn steps_of_a_chain() {
     good(
         &trace,
         "1 memory 64 32\n2 memory 128 32\n3 write 0 0\n4 write 8 0\n5 write 16 0\n6 stop 0 0\n\
-         7 fetch 64 0\n7 move 2000 64\n7 stop 2 0\n\
-         8 move 2064 36\n8 update 64 2147483648\n8 fetch 128 0\n8 update 128 268435456\n8 stop 4 1\n\
+         7 fetch 64 0\n7 move 2000 256\n7 stop 2 0\n\
+         8 move 2256 44\n8 update 64 2147483648\n8 fetch 128 0\n8 update 128 268435456\n8 stop 4 1\n\
          9 stop 0 1\n10 read 8 128\n",
     );
     // Halts, by their bits; a fault with its update.
@@ -305,8 +313,9 @@ fn sequence_numbers() {
         &Trace::new().rd(u32::MAX, 8).rd(u32::MAX, 8),
         "4294967295 read 8 0\n4294967295 bad 11 8\n",
     );
-    // 11 before each record's own refusal.
-    bad(&Trace::new().cf(0, 5, 5), "0 bad 11 0\n");
+    // CF alone may carry 0, so no number keeps it from its own refusal.
+    bad(&Trace::new().cf(0, 5, 5), "0 bad 1 0\n");
+    // 11 before each other record's own refusal.
     let first = Trace::new().rd(5, 8);
     let line = "5 read 8 0\n5 bad 11 8\n";
     bad(&first.clone().mm(5, 32768, &[1]), line);
@@ -404,91 +413,11 @@ fn random_bytes_behind_good_marks_never_panic() {
     }
 }
 
-/// A random trace of good records, mostly about a small stretch of memory.
-fn some_trace(random: &mut Random) -> Trace {
-    let mut trace = Trace::new();
-    let mut sequence = 0;
-    if random.one_in(2) {
-        sequence += 1;
-        let width = random.pick(&WIDTHS) as u16;
-        trace = trace.cf(sequence, width, random.pick(&BEATS) as u16);
-    }
-    let mut windows = 0;
-    for _ in 0..random.below(60) {
-        sequence += 1 + random.below(3);
-        trace = match random.below(16) {
-            0..=3 => {
-                let at = random.below(8) * 64;
-                let stale = if random.one_in(6) { 1 << 31 } else { 0 };
-                let bytes = descriptor(
-                    random.below(8) * 64,
-                    random.below(5000),
-                    if random.one_in(8) { random.u32() } else { random.below(33000) },
-                    if random.one_in(8) { 0 } else { random.below(300) },
-                    stale,
-                );
-                trace.mm(sequence, at, &bytes)
-            }
-            4 if windows < 3 => {
-                windows += 1;
-                trace.sw(sequence, random.below(33000), random.below(20))
-            }
-            5 => trace.wr(sequence, 0, random.pick(&[0, 8, 8, 0x5000, 0x5008, 4, 16, 32, 56])),
-            6 => trace.wr(sequence, 4, random.pick(&[1 << 12, 1 << 14, u32::MAX])),
-            7 => trace.wr(sequence, 8, random.below(8) * 64),
-            8 => trace.wr(sequence, 16, random.below(8) * 64),
-            9 => trace.wr(sequence, 24, random.below(33000)),
-            10 => trace.wr(sequence, 32, random.below(33000)),
-            11 => trace.wr(sequence, 40, random.below(400)),
-            12 => trace.rd(sequence, random.below(46) as u16),
-            13 => trace.st(sequence, random.below(30) as u16),
-            14 => {
-                // From a reset into a chain, or now and then into a simple move, sides fixed or not.
-                sequence += 5;
-                let fixed = random.pick(&[0, 0, 16, 32, 48]);
-                if random.one_in(3) {
-                    let kept = if random.one_in(2) { !127 } else { u32::MAX };
-                    trace
-                        .wr(sequence - 5, 0, 4)
-                        .wr(sequence - 4, 0, fixed)
-                        .wr(sequence - 3, 24, random.below(33000) & kept)
-                        .wr(sequence - 2, 32, random.below(33000) & kept)
-                        .wr(sequence - 1, 40, random.below(400) & kept)
-                        .st(sequence, random.below(8) as u16)
-                } else {
-                    trace
-                        .wr(sequence - 4, 0, 4)
-                        .wr(sequence - 3, 0, 8 | fixed)
-                        .wr(sequence - 2, 8, random.below(8) * 64)
-                        .wr(sequence - 1, 16, random.below(8) * 64)
-                        .st(sequence, random.below(30) as u16)
-                }
-            }
-            _ => {
-                let clock = Clock {
-                    reset_high: !random.one_in(9),
-                    valid: !random.one_in(3),
-                    ready: random.one_in(2),
-                    address: random.below(9000),
-                    length: random.below(40),
-                    size: random.below(4),
-                    burst: random.below(4),
-                    cache: random.below(16),
-                    id: random.below(3),
-                    ..VALID
-                };
-                trace.ar(sequence, &clock)
-            }
-        };
-    }
-    trace
-}
-
 /// The replay again through the public interface, with the standard library's formatting: a
-/// check of the printing and of the ST loop.
-fn slow_listing(bytes: &[u8]) -> String {
-    let mut text = HEADER.to_string();
-    let (mut width, mut beats) = (4, 16);
+/// check of the printing and of the ST loop. The beats are those without a CF.
+fn slow_listing(bytes: &[u8], mut beats: u32, default_line: &str) -> String {
+    let mut text = format!("{HEADER}{default_line}");
+    let mut width = 4;
     let mut engine = Engine::fresh(width, beats);
     let mut monitor = Monitor::fresh();
     let mut memory = vec![0u8; 32768];
@@ -591,7 +520,14 @@ fn good_traces_list_as_the_slow_listing() {
         let mut output = Vec::new();
         assert!(replay(&trace.0, &mut output));
         let text = String::from_utf8(output).unwrap();
-        assert_eq!(text, slow_listing(&trace.0));
+        assert_eq!(text, slow_listing(&trace.0, 64, default_line(&trace.0)));
+        let mut output = Vec::new();
+        if older::replay(&trace.0, &mut output) {
+            assert_eq!(String::from_utf8(output).unwrap(), slow_listing(&trace.0, 16, ""));
+        } else {
+            // None but a CF carries 0 here.
+            assert!(trace.0.starts_with(b"CF\0\0\0\0"));
+        }
         for line in text.lines().skip(1) {
             let word = line.split(' ').nth(1).unwrap();
             seen[words.iter().position(|&known| known == word).unwrap()] += 1;
@@ -610,14 +546,7 @@ fn damaged_traces_never_panic_and_share_their_beginning() {
             continue;
         }
         let mut damaged = whole.clone();
-        for _ in 0..1 + random.below(3) {
-            let at = random.below(damaged.0.len() as u32) as usize;
-            match random.below(3) {
-                0 => damaged.0[at] = random.u32() as u8,
-                1 => damaged.0.truncate(at + 1),
-                _ => damaged.0[at] ^= 1 << random.below(8),
-            }
-        }
+        damage(&mut random, &mut damaged.0);
         let (lines, sound) = listing(&damaged);
         if !sound {
             let parts: Vec<u32> = lines
@@ -637,25 +566,6 @@ fn damaged_traces_never_panic_and_share_their_beginning() {
     for number in [answer::SETTINGS, answer::RECORD, answer::SEQUENCE, answer::PLACE, answer::FIELD]
     {
         assert!(answers[number as usize] > 0, "{answers:?}");
-    }
-}
-
-/// Gives its bytes in pieces of any length, and is interrupted now and then.
-struct Pieces<'a> {
-    rest: &'a [u8],
-    most: u32,
-    random: Random,
-}
-
-impl Read for Pieces<'_> {
-    fn read(&mut self, room: &mut [u8]) -> io::Result<usize> {
-        if self.random.one_in(10) {
-            return Err(io::ErrorKind::Interrupted.into());
-        }
-        let count =
-            (1 + self.random.below(self.most) as usize).min(self.rest.len()).min(room.len());
-        room[..count].copy_from_slice(self.rest.split_off(..count).unwrap());
-        Ok(count)
     }
 }
 
@@ -720,6 +630,10 @@ struct Looker {
 }
 
 impl Observer for Looker {
+    fn defaulted(&mut self, _: &Replay) {
+        self.lines += 1;
+    }
+
     fn record(&mut self, replay: &Replay, _: &Record<&[u8]>) {
         assert!(replay.windows().len() <= 16);
         self.records += 1;

@@ -1,4 +1,5 @@
-// Helpers of the tests: a maker of traces, clocks, and engines with the memory and windows lent to them.
+// Helpers of the tests: a maker of traces, streams, clocks, and engines with the memory and windows
+// lent to them.
 // Records as in RULES.md, "Trace and listing".
 #![allow(dead_code)]
 
@@ -10,6 +11,9 @@ use shared::random::Random;
 use shared::record::encode;
 use shared::registers::{BTT, CDMACR, CHAIN, CURDESC, DA, SA, TAILDESC};
 use shared::settings::{BEATS, WIDTHS};
+use std::io::{self, Read};
+
+pub const HEADER: &str = "seq event first second\n";
 
 /// Out of reset with valid low.
 pub const QUIET: Clock = Clock {
@@ -78,6 +82,117 @@ impl Trace {
 
     pub fn ar(self, sequence: u32, clock: &Clock) -> Trace {
         self.put(sequence, Record::Bus(Bus::from(clock)))
+    }
+}
+
+/// A random trace of good records, mostly about a small stretch of memory.
+pub fn some_trace(random: &mut Random) -> Trace {
+    let mut trace = Trace::new();
+    let mut sequence = 0;
+    if random.one_in(2) {
+        sequence += random.below(2);
+        let width = random.pick(&WIDTHS) as u16;
+        trace = trace.cf(sequence, width, random.pick(&BEATS) as u16);
+    }
+    let mut windows = 0;
+    for _ in 0..random.below(60) {
+        sequence += 1 + random.below(3);
+        trace = match random.below(16) {
+            0..=3 => {
+                let at = random.below(8) * 64;
+                let stale = if random.one_in(6) { 1 << 31 } else { 0 };
+                let bytes = descriptor(
+                    random.below(8) * 64,
+                    random.below(5000),
+                    if random.one_in(8) { random.u32() } else { random.below(33000) },
+                    if random.one_in(8) { 0 } else { random.below(300) },
+                    stale,
+                );
+                trace.mm(sequence, at, &bytes)
+            }
+            4 if windows < 3 => {
+                windows += 1;
+                trace.sw(sequence, random.below(33000), random.below(20))
+            }
+            5 => trace.wr(sequence, 0, random.pick(&[0, 8, 8, 0x5000, 0x5008, 4, 16, 32, 56])),
+            6 => trace.wr(sequence, 4, random.pick(&[1 << 12, 1 << 14, u32::MAX])),
+            7 => trace.wr(sequence, 8, random.below(8) * 64),
+            8 => trace.wr(sequence, 16, random.below(8) * 64),
+            9 => trace.wr(sequence, 24, random.below(33000)),
+            10 => trace.wr(sequence, 32, random.below(33000)),
+            11 => trace.wr(sequence, 40, random.below(400)),
+            12 => trace.rd(sequence, random.below(46) as u16),
+            13 => trace.st(sequence, random.below(30) as u16),
+            14 => {
+                // From a reset into a chain, or now and then into a simple move, sides fixed or not.
+                sequence += 5;
+                let fixed = random.pick(&[0, 0, 16, 32, 48]);
+                if random.one_in(3) {
+                    let kept = if random.one_in(2) { !127 } else { u32::MAX };
+                    trace
+                        .wr(sequence - 5, 0, 4)
+                        .wr(sequence - 4, 0, fixed)
+                        .wr(sequence - 3, 24, random.below(33000) & kept)
+                        .wr(sequence - 2, 32, random.below(33000) & kept)
+                        .wr(sequence - 1, 40, random.below(400) & kept)
+                        .st(sequence, random.below(8) as u16)
+                } else {
+                    trace
+                        .wr(sequence - 4, 0, 4)
+                        .wr(sequence - 3, 0, 8 | fixed)
+                        .wr(sequence - 2, 8, random.below(8) * 64)
+                        .wr(sequence - 1, 16, random.below(8) * 64)
+                        .st(sequence, random.below(30) as u16)
+                }
+            }
+            _ => {
+                let clock = Clock {
+                    reset_high: !random.one_in(9),
+                    valid: !random.one_in(3),
+                    ready: random.one_in(2),
+                    address: random.below(9000),
+                    length: random.below(40),
+                    size: random.below(4),
+                    burst: random.below(4),
+                    cache: random.below(16),
+                    id: random.below(3),
+                    ..VALID
+                };
+                trace.ar(sequence, &clock)
+            }
+        };
+    }
+    trace
+}
+
+/// Changes or cuts a trace that is not empty, in one to three places.
+pub fn damage(random: &mut Random, trace: &mut Vec<u8>) {
+    for _ in 0..1 + random.below(3) {
+        let at = random.below(trace.len() as u32) as usize;
+        match random.below(3) {
+            0 => trace[at] = random.u32() as u8,
+            1 => trace.truncate(at + 1),
+            _ => trace[at] ^= 1 << random.below(8),
+        }
+    }
+}
+
+/// Gives its bytes in pieces of any length, and is interrupted now and then.
+pub struct Pieces<'a> {
+    pub rest: &'a [u8],
+    pub most: u32,
+    pub random: Random,
+}
+
+impl Read for Pieces<'_> {
+    fn read(&mut self, room: &mut [u8]) -> io::Result<usize> {
+        if self.random.one_in(10) {
+            return Err(io::ErrorKind::Interrupted.into());
+        }
+        let count =
+            (1 + self.random.below(self.most) as usize).min(self.rest.len()).min(room.len());
+        room[..count].copy_from_slice(self.rest.split_off(..count).unwrap());
+        Ok(count)
     }
 }
 

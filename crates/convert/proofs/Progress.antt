@@ -1,19 +1,19 @@
 -- Each turn gets on.
-use mathlib.Core.Path.{_≡_, refl, sym, ap, subst, _∙_}
+use mathlib.Core.Path.{_≡_, refl, sym, ap, _∙_}
 use mathlib.Core.Logic.{_⊎_, inl, inr}
-use Prim.Native.Nat.{ℕ, zero, suc, _+_, _-_, _≤_, _<_}
+use Prim.Native.Nat.{ℕ, zero, suc, _+_, _-_, _<_}
 use mathlib.Core.Bool.{Bool, true, false, not}
 use mathlib.Core.List.{List}
 use native.Mathlib.Omega.{arith}
-use lib.ListN.{length, take, drop, length-drop}
+use lib.ListN.{length, drop, length-drop}
 use lib.Seq.{length-take-le}
 use lib.IntN.{ℤ, pos, negsuc}
 use Rattle.kit.specs.Choice.{either}
 use Rattle.kit.proofs.Choice.{either-right}
 use Rattle.libc.specs.Io.{Moved}
 use Rattle.convert.specs.declared.copying.Copying.{Copying}
-use Rattle.convert.specs.Copying.{room, front, Fits, overOf, readyOf, afterRead}
-use Rattle.convert.specs.Turn.{Turn, deliveredBy, readIn}
+use Rattle.convert.specs.Copying.{room, front, overOf, readyOf, afterRead}
+use Rattle.convert.specs.Turn.{Turn, deliveredBy}
 use Rattle.convert.specs.Whole.{interruptedBy, Progress}
 
 -- a write leaves what a read said

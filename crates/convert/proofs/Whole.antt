@@ -1,21 +1,21 @@
 -- The turns of the converter make the converted trace.
 use mathlib.Core.Path.{_≡_, refl, sym, ap, subst, _∙_}
 use mathlib.Core.Logic.{_⊎_, inl, inr}
-use Prim.Native.Nat.{ℕ, _+_, _≤_, _<_}
+use Prim.Native.Nat.{ℕ, _+_, _<_}
 use mathlib.Core.Bool.{Bool, true, false}
 use mathlib.Core.List.{List, [], _++_, append-assoc, append-nil}
 use native.Mathlib.Omega.{arith}
-use lib.ListN.{length, take, drop}
+use lib.ListN.{length}
 use lib.Dec.{leb}
-use borrow.Author.Tests.{leb-true, leb-false}
+use borrow.Author.Tests.{leb-true, leb-false, not-false}
 use Rattle.kit.specs.Choice.{when, either}
-use Rattle.kit.proofs.Choice.{yes, no, never, neither, both-right}
+use Rattle.kit.proofs.Choice.{yes, no, never, neither, both-left, both-right}
 use Rattle.record.specs.Starts.{settingsAt, olderSettings, convertedOf}
 use Rattle.record.proofs.Starting.{starts}
 use Rattle.convert.specs.declared.copying.Copying.{Copying}
-use Rattle.convert.specs.Copying.{room, front, pendingOf, Fits, opened, overOf, readyOf, goingOf, afterWrite}
+use Rattle.convert.specs.Copying.{pendingOf, Fits, overOf, readyOf, goingOf}
 use Rattle.convert.specs.Turn.{Begins, Turn, readIn, sentIn}
-use Rattle.convert.specs.Whole.{Turns, begun, turned, Converts, Reached, Complete}
+use Rattle.convert.specs.Whole.{Turns, begun, turned, Taken, Converts, Reached, Complete}
 use Rattle.convert.proofs.Buffer.{pending-length, read-decided, refill-fits, refill-pending}
 
 -- ---- the converted trace, by its first bytes
@@ -159,10 +159,17 @@ pub record Runs (s : Copying) (b : List ℕ) : Type 0 where
 pub runs-reached : {s : Copying} {b : List ℕ} → Runs s b → Reached s b
 runs-reached h = record { read = h .read; sent = h .sent; turns = h .turns; converts = stands (h .turns) .converts }
 
+-- a turn follows only if the writes before it were taken
+all-taken : {s : Copying} {b read sent : List ℕ} (h : Turns s b read sent) → s .taken ≡ true → Taken h
+all-taken (begun t) e = tt
+all-taken (turned {s} h going t) e =
+    let before : s .taken ≡ true = not-false (s .taken) (neither (s .failed) _ (neither (s .ended) _ going .1) .1) in
+    (all-taken h before, λ k. sym (ap (λ (x : Copying). x .taken) (t .goes k .is)) ∙ e)
+
 pub complete : Complete
 complete s b h done =
-    let ended = both-right (s .taken) (s .ended) done in
-    let last = h .converts .ends ended in
-    sym
-    (ap convertedOf (sym (append-nil (h .read))) ∙ h .converts .after (last .0) [] (λ _. refl)
-    ∙ ap (λ (l : List ℕ). h .sent ++ (l ++ [])) (last .1) ∙ append-nil (h .sent))
+    let last = h .converts .ends (both-right (s .taken) (s .ended) done) in
+    let whole =
+    ap convertedOf (sym (append-nil (h .read))) ∙ h .converts .after (last .0) [] (λ _. refl)
+    ∙ ap (λ (l : List ℕ). h .sent ++ (l ++ [])) (last .1) ∙ append-nil (h .sent) in
+    (sym whole, all-taken (h .turns) (both-left (s .taken) (s .ended) done))

@@ -1,8 +1,7 @@
 -- What each function of the converter does, whatever the system answers it. What a read delivers and whether a write is taken
 -- are the system's: they stand here as unknowns.
-use Prim.Native.Nat.{ℕ, _+_, _-_, _<_}
+use Prim.Native.Nat.{ℕ, _+_, _-_}
 use mathlib.Core.Path.{_≡_}
-use mathlib.Core.Logic.{_⊎_}
 use mathlib.Core.Bool.{Bool, true, false}
 use mathlib.Core.List.{List, []}
 use lib.ListN.{length, take, drop}
@@ -10,7 +9,7 @@ use lib.IntN.{ℤ, pos, negsuc}
 use Rattle.kit.specs.Choice.{when}
 use Rattle.libc.specs.Io.{Moved}
 use Rattle.convert.specs.declared.copying.Copying.{Copying}
-use Rattle.convert.specs.Copying.{room, front, pendingOf, Fits, opened, overOf, readyOf, afterRead, goingOf, afterWrite}
+use Rattle.convert.specs.Copying.{room, front, pendingOf, Fits, opened, readyOf, afterRead, goingOf, afterWrite}
 
 -- CF 0 (4,16) was put at the buffer's front
 pub record Begins (r : Copying) (b′ : List ℕ) : Type 0 where

@@ -8,7 +8,7 @@ use lib.ListN.{length}
 use lib.IntN.{ℤ, pos, negsuc}
 use Rattle.record.specs.Starts.{convertedOf}
 use Rattle.convert.specs.declared.copying.Copying.{Copying}
-use Rattle.convert.specs.Copying.{pendingOf, Fits, overOf, finishedOf}
+use Rattle.convert.specs.Copying.{pendingOf, Fits, overOf, readyOf, finishedOf}
 use Rattle.convert.specs.Turn.{Begins, Turn, readIn, sentIn}
 
 -- the turns so far: all that was read, and all that was handed over, both in order. A turn follows only if no turn before it
@@ -17,6 +17,11 @@ pub data Turns : Copying → List ℕ → List ℕ → List ℕ → Type 0 where
   begun : {s : Copying} {b : List ℕ} → Begins s b → Turns s b [] []
   turned : {s : Copying} {b read sent : List ℕ} {r : Copying} {b′ : List ℕ} → Turns s b read sent → overOf s ≡ false
       → (t : Turn s b r b′) → Turns r b′ (read ++ readIn t) (sent ++ sentIn t)
+
+-- each write of these turns was taken
+abbrev pub Taken : {s : Copying} {b read sent : List ℕ} → Turns s b read sent → Type 0
+Taken (begun t) = Unit {0}
+Taken (turned h going t) = Taken h × ((e : readyOf (t .middle) ≡ true) → t .goes e .taken ≡ true)
 
 -- what the bytes read and the bytes handed over have to do with each other. Until what comes before the trace is decided,
 -- nothing was sent and all is pending. From then on every trace that starts with the bytes read, or the one that ended with
@@ -33,9 +38,9 @@ pub record Reached (s : Copying) (b : List ℕ) : Type 0 where
   pub turns : Turns s b read sent
   pub converts : Converts s b read sent
 
--- a copy that is finished has handed over the converted trace, whole
+-- a copy that is finished has handed over the converted trace, whole, and all of it was taken
 abbrev pub Complete : Type 0
-Complete = (s : Copying) (b : List ℕ) → (h : Reached s b) → finishedOf s ≡ true → h .sent ≡ convertedOf (h .read)
+Complete = (s : Copying) (b : List ℕ) → (h : Reached s b) → finishedOf s ≡ true → (h .sent ≡ convertedOf (h .read)) × Taken (h .turns)
 
 -- the read failed, and was interrupted
 abbrev pub interruptedBy : ℤ → Bool → Bool

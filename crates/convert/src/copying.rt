@@ -2,7 +2,7 @@
 ghost use mathlib.Core.Path.{_≡_};
 ghost use Prim.Native.Nat.{_+_, _-_, _≤_};
 ghost use Rattle.libc.specs.Io.{Moved};
-ghost use Rattle.convert.specs.Copying.{room, front, opened, readyOf, overOf, afterRead, afterWrite};
+ghost use Rattle.convert.specs.Copying.{room, front, readyOf, overOf, afterRead, afterWrite};
 
 // The bytes of CF 0 (4,16). They stand at the buffer's front all the time, and the trace's bytes after them, so that one
 // write hands over both.
@@ -17,19 +17,6 @@ pub struct Copying {
     pub ended: bool,
     pub taken: bool,
     pub failed: bool,
-}
-
-// Before anything is read.
-pub fn open() -> Copying
-    ensures { λ r. ⌜ r ≡ opened ⌝ }
-{
-    Copying {
-        waiting: 0,
-        decided: false,
-        ended: false,
-        taken: true,
-        failed: false,
-    }
 }
 
 // Whether no turn is to come.

@@ -4,7 +4,6 @@ use crate::copying::FRONT;
 use crate::copying::after_read;
 use libc::EINTR;
 use libc::STDIN_FILENO;
-ghost use mathlib.Core.Path.{_≡_};
 ghost use Prim.Native.Nat.{_+_, _<_};
 ghost use Rattle.convert.specs.Copying.{room, front, Fits};
 ghost use Rattle.convert.specs.Turn.{Refills};

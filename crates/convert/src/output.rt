@@ -2,7 +2,6 @@
 use crate::copying::Copying;
 use crate::copying::FRONT;
 use crate::copying::after_write;
-use crate::copying::open;
 use libc::STDOUT_FILENO;
 use record::starts::settings_at;
 ghost use mathlib.Core.Path.{_≡_};
@@ -10,14 +9,20 @@ ghost use lib.ListN.{length};
 ghost use Rattle.convert.specs.Copying.{room, pendingOf, firstOf, Fits};
 ghost use Rattle.convert.specs.Turn.{Begins, Handed, Forwards};
 
-// Puts CF 0 (4,16) at the buffer's front.
+// Puts CF 0 (4,16) at the buffer's front, before anything is read.
 pub fn begin(buffer: &mut [u8]) -> Copying
     requires { ⌜ length (now buffer) ≡ room ⌝ }
     ensures { λ r. ⌜ Begins r (now (buffer .exit)) ⌝ }
 {
     let older = b"CF\0\0\0\0\x04\0\x10\0";
     bytes::copy(older, buffer);
-    open()
+    Copying {
+        waiting: 0,
+        decided: false,
+        ended: false,
+        taken: true,
+        failed: false,
+    }
 }
 
 // Hands over what is pending; the first time with what comes before the trace.

@@ -7,9 +7,8 @@ use lib.Seq.{length-take-le}
 use lib.IntN.{ℤ}
 use mir.Syntax.{w64}
 use mir.Facts.{toZ-ofZ}
-use borrow.Author.Needs.{sfits-of}
+use borrow.Author.Needs.{needs, sfits-of}
 use borrow.Rule.Slice.PartMut.{take-put}
-use borrow.Author.Needs.{needs}
 use Rattle.libc.specs.Io.{Moved}
 use Rattle.convert.specs.Copying.{room, front, afterRead}
 use Rattle.convert.proofs.input.refill.Statement.{statement}

@@ -25,8 +25,9 @@ pub record Refills (s : Copying) (b : List ℕ) (r : Copying) (b′ : List ℕ) 
   pub kept : take (front + s .waiting) b′ ≡ take (front + s .waiting) b
   pub size : length b′ ≡ room
 
--- these bytes were handed to the system in one call, which answered whether it took them. No contract of the language says
--- what a call writes. The function `hand_over`, one call, says it, and its proof alone may make one of these.
+-- these bytes, in this order, were handed over for standard output, and the answer was whether all were taken. The kit's
+-- contracts do not say what a call writes, so one function says it, `hand_over`, which is that call and nothing else. Only
+-- its proof makes one of these.
 pub data Handed : List ℕ → Bool → Type 0 where
   handed : (bytes : List ℕ) (taken : Bool) → Handed bytes taken
 

@@ -11,8 +11,8 @@ use Rattle.convert.specs.declared.copying.Copying.{Copying}
 use Rattle.convert.specs.Copying.{pendingOf, Fits, overOf, readyOf, finishedOf}
 use Rattle.convert.specs.Turn.{Begins, Turn, readIn, sentIn}
 
--- the turns so far: all that was read, and all that was handed over, both in order. A turn follows only if no turn before it
--- was the last.
+-- the turns so far: all that was read, and all that was handed over, both in order. A turn follows only if the one before it
+-- was not the last.
 pub data Turns : Copying → List ℕ → List ℕ → List ℕ → Type 0 where
   begun : {s : Copying} {b : List ℕ} → Begins s b → Turns s b [] []
   turned : {s : Copying} {b read sent : List ℕ} {r : Copying} {b′ : List ℕ} → Turns s b read sent → overOf s ≡ false
@@ -32,6 +32,7 @@ pub record Converts (s : Copying) (b read sent : List ℕ) : Type 0 where
       → convertedOf (read ++ rest) ≡ sent ++ (pendingOf s b ++ rest)
   pub ends : s .ended ≡ true → (s .decided ≡ true) × (pendingOf s b ≡ [])
 
+-- there are such turns, and they convert
 pub record Reached (s : Copying) (b : List ℕ) : Type 0 where
   pub read : List ℕ
   pub sent : List ℕ

@@ -14,9 +14,13 @@ use Rattle.convert.specs.Copying.{room, front, afterRead}
 use Rattle.convert.proofs.input.refill.Statement.{statement}
 use Rattle.convert.proofs.input.refill.Tie as tie
 
--- the room that a read is lent
-part-length : (b : List ℕ) (end : ℕ) → length b ≡ room → end ≤ room → length (take (length b - end) (drop end b)) ≡ room - end
-part-length b end size h = length-take-le (length b - end) (drop end b) (omega (arith, length-drop end b)) ∙ omega (arith, size)
+-- a read is lent the room after the pending bytes
+room-moved : (b : List ℕ) (end : ℕ) → length b ≡ room → end ≤ room → (answer : ℤ) → Moved (length (take (length b - end) (drop end b))) answer
+    → Moved (room - end) answer
+room-moved b end size h answer =
+    let lent : length (take (length b - end) (drop end b)) ≡ length b - end = length-take-le (length b - end) (drop end b) (omega (arith, length-drop end b)) in
+    let left : length (take (length b - end) (drop end b)) ≡ room - end = omega (arith, lent, size) in
+    subst (λ (n : ℕ). Moved n answer) left
 
 add-end : tie.Need-add-end
 add-end c = search needs
@@ -38,13 +42,11 @@ interrupted-requires c κs = search needs
 
 after-read-requires : tie.Need-after-read-requires
 after-read-requires c κs =
-    let pre = c .before .before .before .before .before .before .before .pre in
-    let b : List ℕ = c .before .before .before .before .before .before .before .args .buffer .now in
-    let got = c .before .before .before .read in (
-      pre .0 .within,
-      subst (Moved _) (sym (toZ-ofZ {w = w64} {z = got .result} (sfits-of (got .ok))))
-          (subst (λ (n : ℕ). Moved n (got .result)) (part-length b (front + c .before .before .before .before .before .before .before .args .state .waiting) (pre .0 .size) (pre .0 .within)) (got .ensures)),
-    )
+    let fits = c .before .before .before .before .before .before .before .pre .0 in
+    let a = c .before .before .before .before .before .before .before .args in
+    let got = c .before .before .before .read in
+    let moved = room-moved (a .buffer .now) (front + a .state .waiting) (fits .size) (fits .within) (got .result) (got .ensures) in
+    (fits .within, subst (Moved _) (sym (toZ-ofZ {w = w64} {z = got .result} (sfits-of (got .ok)))) moved)
 
 same-length : tie.Need-same-length
 same-length c = search needs
@@ -59,7 +61,7 @@ returns c =
     record {
       answer = got .result;
       interrupted = again;
-      moved = subst (λ (n : ℕ). Moved n (got .result)) (part-length b (front + s .waiting) (fits .size) (fits .within)) (got .ensures);
+      moved = room-moved b (front + s .waiting) (fits .size) (fits .within) (got .result) (got .ensures);
       is = c .after-read .ensures ∙ ap (λ (z : ℤ). afterRead s z again) (toZ-ofZ {w = w64} {z = got .result} (sfits-of (got .ok)));
       kept = take-put (front + s .waiting) (length b - (front + s .waiting)) b (got .last .1 .0) (omega (arith, fits .within, fits .size));
       size = same-length c ∙ fits .size;

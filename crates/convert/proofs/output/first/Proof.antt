@@ -1,5 +1,6 @@
 use mathlib.Core.Path.{_≡_, refl, sym, ap, _∙_}
 use Prim.Native.Nat.{ℕ, _+_, _-_}
+use mathlib.Core.Bool.{Bool}
 use mathlib.Core.List.{List}
 use native.Mathlib.Omega.{arith}
 use lib.ListN.{take, drop}
@@ -11,8 +12,8 @@ use Rattle.convert.proofs.output.first.Statement.{statement}
 use Rattle.convert.proofs.output.first.Tie as tie
 
 -- the part that is judged is what is pending
-part-same : (b : List ℕ) (n : ℕ) → settingsAt (take (front + n - front) (drop front b)) 0 ≡ settingsAt (take n (drop front b)) 0
-part-same b n = let same : front + n - front ≡ n = omega arith in ap (λ (k : ℕ). settingsAt (take k (drop front b)) 0) same
+judged : (b : List ℕ) (n : ℕ) {r : Bool} → r ≡ settingsAt (take (front + n - front) (drop front b)) 0 → settingsAt (take n (drop front b)) 0 ≡ r
+judged b n e = let same : n ≡ front + n - front = omega arith in ap (λ (k : ℕ). settingsAt (take k (drop front b)) 0) same ∙ sym e
 
 returns : tie.Need-returns
 returns c = search needs
@@ -35,12 +36,14 @@ settings-at-requires c κs = search needs
 returns-2 : tie.Need-returns-2
 returns-2 c =
     let a = c .before .before .before .before .before .before .args in
-    no _ (c .before .before .before .before .if1 .left) (yes _ (sym (part-same (a .buffer .now) (a .state .waiting)) ∙ sym (c .before .settings-at .ensures) ∙ c .if2 .taken) refl)
+    let starts = judged (a .buffer .now) (a .state .waiting) (c .before .settings-at .ensures) in
+    no _ (c .before .before .before .before .if1 .left) (yes _ (starts ∙ c .if2 .taken) refl)
 
 returns-3 : tie.Need-returns-3
 returns-3 c =
     let a = c .before .before .before .before .before .before .args in
-    no _ (c .before .before .before .before .if1 .left) (no _ (sym (part-same (a .buffer .now) (a .state .waiting)) ∙ sym (c .before .settings-at .ensures) ∙ c .if2 .left) refl)
+    let starts = judged (a .buffer .now) (a .state .waiting) (c .before .settings-at .ensures) in
+    no _ (c .before .before .before .before .if1 .left) (no _ (starts ∙ c .if2 .left) refl)
 
 pub first-spec : {M : Type 1} → statement M
 first-spec =

@@ -39,7 +39,8 @@ returns : tie.Need-returns
 returns c =
     let a = c .before .before .before .before .before .before .args in
     let b : List ℕ = a .buffer .now in
-    let part = ap (λ (n : ℕ). take (front + a .state .waiting - n) (drop n b)) (c .before .before .before .before .first .ensures) ∙ going-part (c .before .before .before .before .before .before .pre) in
+    let from : ℕ → List ℕ = λ n. take (front + a .state .waiting - n) (drop n b) in
+    let part = ap from (c .before .before .before .before .first .ensures) ∙ going-part (c .before .before .before .before .before .before .pre) in
     record {
       taken = c .before .hand-over .result;
       hands = subst (λ (l : List ℕ). Handed l (c .before .hand-over .result)) part (c .before .hand-over .ensures);

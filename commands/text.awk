@@ -179,6 +179,8 @@ BEGIN {
     print "# A trace as text: ./belikumba trace makes the trace again. After each # is the record's position."
 }
 
+NR == 1 && ($1 != 67 || $2 != 70) { print "# No CF at its start: width 4 and 64 beats, or 16 on an older board; see ./belikumba help convert." }
+
 # The bytes of this line, behind what was left of the last one; `before` bytes of the trace came before the first of them.
 {
     rest = ""

@@ -58,7 +58,7 @@ fn trace(family: &str, random: Random) -> Vec<u8> {
     let mut maker = Maker::new(random);
     if family == "long" {
         let (width, beats) = maker.random.pick(&[(4, 2), (4, 2), (4, 4), (8, 2)]);
-        maker.settings(width, beats);
+        maker.first_settings(width, beats);
     } else {
         maker.any_settings();
     }

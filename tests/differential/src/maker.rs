@@ -57,10 +57,13 @@ impl Maker {
             return;
         }
         let gap = if self.dense || self.random.chance(93) { 1 } else { self.random.between(2, 30) };
-        let Some(sequence) = self.sequence.checked_add(gap) else {
-            self.ended = true;
-            return;
-        };
+        match self.sequence.checked_add(gap) {
+            Some(sequence) => self.put_as(sequence, record),
+            None => self.ended = true,
+        }
+    }
+
+    fn put_as(&mut self, sequence: u32, record: Record) {
         encode(&record, sequence, &mut self.bytes);
         self.sequence = sequence;
         self.records += 1;
@@ -71,11 +74,20 @@ impl Maker {
         self.put(Record::Settings { width: width as u16, beats: beats as u16 });
     }
 
+    /// A trace's first record: a CF may carry 0, and one in four does.
+    pub fn first_settings(&mut self, width: u32, beats: u32) {
+        if self.random.one_in(4) {
+            self.put_as(0, Record::Settings { width: width as u16, beats: beats as u16 });
+        } else {
+            self.settings(width, beats);
+        }
+    }
+
     /// A CF with one of the 48 settings, or none.
     pub fn any_settings(&mut self) {
         if self.random.chance(85) {
             let (width, beats) = settings::listed(&mut self.random);
-            self.settings(width, beats);
+            self.first_settings(width, beats);
         }
     }
 

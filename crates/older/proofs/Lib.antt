@@ -1,3 +1,4 @@
 pub mod Lines
 pub mod Grown
 pub mod Claims
+pub mod Cases

@@ -1,0 +1,31 @@
+-- The short cases, by computing them.
+use mathlib.Core.Path.{refl}
+use Rattle.kit.specs.Settings.{legalWidth, legalBeats}
+use Rattle.state.specs.State.{wellFormedOf}
+use Rattle.reads.specs.Read.{registerOf}
+use Rattle.record.specs.Mark.{kindOf}
+use Rattle.record.specs.Reading.{readingOf}
+use Rattle.digits.specs.Decimal.{digitsBy, digitsOf}
+use Rattle.listing.specs.Line.{lineOf, headerOf}
+use Rattle.session.specs.Turn.{applyOf}
+use Rattle.session.specs.Pass.{turnOn}
+use Rattle.whole.specs.Listing.{listFrom, listingOf}
+use Rattle.older.specs.Lines.{linesFrom}
+use Rattle.older.specs.Cases.{DefaultCases}
+
+pub default-cases : DefaultCases
+unfolding legalWidth legalBeats wellFormedOf registerOf kindOf readingOf digitsBy digitsOf lineOf headerOf applyOf turnOn listFrom listingOf linesFrom
+default-cases = record {
+  default = refl;
+  older = refl;
+  converted = refl;
+  zero-first = refl;
+  zero-next = refl;
+  zero-older = refl;
+  settings-zero = refl;
+  settings-older = refl;
+  cut = refl;
+  letter = refl;
+  empty = refl;
+  empty-converted = refl;
+}

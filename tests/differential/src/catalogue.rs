@@ -20,23 +20,28 @@ fn numbered(all: &[Record]) -> Vec<u8> {
     bytes
 }
 
+/// A trace with other numbers.
+fn numbered_as(all: &[(u32, &Record)]) -> Vec<u8> {
+    let mut bytes = Vec::new();
+    for (sequence, record) in all {
+        encode(record, *sequence, &mut bytes);
+    }
+    bytes
+}
+
 fn write(offset: u16, value: u32) -> Record {
     Record::Write { offset, value }
 }
 
 /// The whole case of RULES.md, with its own numbers.
 fn whole_case() -> Vec<u8> {
-    let mut bytes = Vec::new();
-    for (sequence, record) in [
-        (1, Record::Settings { width: 4, beats: 16 }),
-        (2, write(24, 256)),
-        (9, write(32, 4088)),
-        (10, write(40, 16)),
-        (11, Record::Steps { steps: 5 }),
-    ] {
-        encode(&record, sequence, &mut bytes);
-    }
-    bytes
+    numbered_as(&[
+        (1, &Record::Settings { width: 4, beats: 16 }),
+        (2, &write(24, 256)),
+        (9, &write(32, 4088)),
+        (10, &write(40, 16)),
+        (11, &Record::Steps { steps: 5 }),
+    ])
 }
 
 /// One record of each mark.
@@ -109,21 +114,16 @@ fn cases() -> Vec<Vec<u8>> {
         [4_294_967_295, 0, 1],
         [1, 2_147_483_648, 2_147_483_647],
     ] {
-        let mut bytes = Vec::new();
-        for number in numbers {
-            encode(&Record::Read { offset: 4 }, number, &mut bytes);
-        }
-        all.push(bytes);
+        let read = Record::Read { offset: 4 };
+        all.push(numbered_as(&numbers.map(|number| (number, &read))));
     }
-    // CF: late, twice, with an old number, with an old number and bad settings.
+    // CF: late, and twice.
     let settings = Record::Settings { width: 4, beats: 16 };
     all.push(numbered(&[Record::Read { offset: 4 }, settings.clone()]));
-    all.push(numbered(&[settings.clone(), settings.clone()]));
-    for record in [settings, Record::Settings { width: 3, beats: 16 }] {
-        let mut bytes = Vec::new();
-        encode(&record, 0, &mut bytes);
-        all.push(bytes);
-    }
+    all.push(numbered(&[settings.clone(), settings]));
+    all.extend(zero_numbers());
+    all.extend(first_marks());
+    all.extend(default_bursts());
     // Sixteen windows and seventeen, in use and not.
     for count in [16, 17] {
         let mut windows = vec![Record::Window { start: 600, length: 1 }; count];
@@ -186,6 +186,96 @@ fn cases() -> Vec<Vec<u8>> {
         all.extend(BEATS.map(|beats| queues(width, beats)));
     }
     all.extend(large());
+    all
+}
+
+/// The number 0: a CF may carry it, and nothing else; what is behind that CF is above it.
+fn zero_numbers() -> Vec<Vec<u8>> {
+    let settings = Record::Settings { width: 8, beats: 4 };
+    let read = Record::Read { offset: 4 };
+    let mut all = vec![
+        numbered_as(&[(0, &settings)]),
+        numbered_as(&[(0, &settings), (0, &read)]),
+        numbered_as(&[(0, &settings), (1, &read), (1, &read)]),
+        numbered_as(&[(0, &settings), (u32::MAX, &read), (0, &read)]),
+        numbered_as(&[(u32::MAX, &settings)]),
+        numbered_as(&[(u32::MAX, &settings), (0, &read)]),
+        // Late, it is no record.
+        numbered_as(&[(0, &settings), (0, &settings)]),
+        numbered_as(&[(0, &settings), (1, &settings)]),
+        numbered_as(&[(1, &settings), (0, &settings)]),
+        numbered_as(&[(1, &read), (0, &settings)]),
+        numbered_as(&[(0, &read), (0, &settings)]),
+    ];
+    for (width, beats) in BAD_SETTINGS {
+        all.push(numbered_as(&[(0, &Record::Settings { width, beats }), (1, &read)]));
+    }
+    // Cut short it is no record either.
+    let whole = numbered_as(&[(0, &settings)]);
+    all.extend((2..whole.len()).map(|end| whole[..end].to_vec()));
+    for record in [
+        Record::Memory { address: 0, bytes: vec![1] },
+        Record::Memory { address: MEMORY, bytes: vec![1] },
+        Record::Memory { address: 0, bytes: Vec::new() },
+        Record::Window { start: 0, length: 1 },
+        write(0x18, 1),
+        write(3, 1),
+        Record::Steps { steps: 1 },
+        Record::Bus(Bus::default()),
+        Record::Bus(Bus { bits: 8, ..Bus::default() }),
+    ] {
+        all.push(numbered_as(&[(0, &record), (1, &read)]));
+    }
+    all
+}
+
+/// First bytes that are nearly CF, alone and before a record's other bytes.
+fn first_marks() -> Vec<Vec<u8>> {
+    let mut all: Vec<Vec<u8>> = [b"F", b"\n", b"c"].map(|bytes| bytes.to_vec()).into();
+    let near: [&[u8; 2]; 8] = [b"CC", b"FF", b"Cf", b"cF", b"C2", b"C\0", b"\0C", b" C"];
+    for mark in near.iter().chain(&UNKNOWN_MARKS) {
+        let mut bytes =
+            numbered(&[Record::Settings { width: 4, beats: 16 }, Record::Read { offset: 4 }]);
+        bytes[..2].copy_from_slice(*mark);
+        all.extend([mark.to_vec(), bytes]);
+    }
+    // A CF behind another byte is not at the start.
+    all.push([b"C", &whole_case()[..]].concat());
+    all
+}
+
+/// Copies without CF, of about 16 beats and of about 64, and the same behind a CF of number 0.
+fn default_bursts() -> Vec<Vec<u8>> {
+    let mut all = Vec::new();
+    for count in [60, 64, 65, 68, 252, 256, 257, 260, 512, 513, 1040] {
+        let copies = copies_of(count);
+        all.push(numbered(&copies));
+        for beats in [16, 64] {
+            let settings = numbered_as(&[(0, &Record::Settings { width: 4, beats })]);
+            all.push([settings, numbered(&copies)].concat());
+        }
+    }
+    all
+}
+
+/// Incrementing, from within a word, over a page's end, and with fixed sides: by BTT and by a
+/// descriptor.
+fn copies_of(count: u32) -> Vec<Record> {
+    let mut all = Vec::new();
+    for (sides, source, destination) in [
+        (0, 1024, 8192),
+        (0, 1027, 8193),
+        (0, 1024, 8192 - 100),
+        (KEY_HOLE_READ, 1024, 8192),
+        (KEY_HOLE_WRITE, 1024, 8192),
+        (KEY_HOLE, 1024, 8192),
+    ] {
+        all.extend([write(0, sides), write(0x18, source), write(0x20, destination)]);
+        all.extend([write(0x28, count), Record::Steps { steps: 99 }, write(0, 4)]);
+        let bytes = descriptor(64, source, destination, count, 0, 0);
+        all.extend([Record::Memory { address: 64, bytes }, write(0, 8 | sides), write(8, 64)]);
+        all.extend([write(16, 64), Record::Steps { steps: 99 }, write(0, 4)]);
+    }
     all
 }
 

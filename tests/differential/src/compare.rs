@@ -1,19 +1,26 @@
-// Runs the replay program on traces and compares each listing with the independent one.
+// Runs the proved programs on traces and compares what they write with the independent one.
 
-use std::fs::{self, File};
-use std::io::{self, Seek, Write};
+use std::fs;
+use std::io;
 use std::path::{Path, PathBuf};
-use std::process::{Command, Output, Stdio};
 use std::sync::atomic::{AtomicU64, Ordering};
-use std::thread;
 use std::time::Instant;
 
 use shared::coverage::Counts;
 use shared::crew::{self, Outcome};
 
+use crate::conversion;
 use crate::coverage;
 use crate::families;
+use crate::feed::expect;
 use crate::observe::observe;
+
+/// The proved programs.
+#[derive(Clone, Copy)]
+pub struct Programs<'a> {
+    pub replay: &'a Path,
+    pub convert: &'a Path,
+}
 
 /// Which traces a run takes: some fixed ones, then some of a seed.
 #[derive(Clone, Copy)]
@@ -41,12 +48,18 @@ impl Plan {
     }
 }
 
+/// Is this trace converted too? All of the catalogue are; of the others a share is enough, since
+/// the test must not take twice as long for it.
+fn converts(family: &str, index: u64) -> bool {
+    families::CATALOGUED.contains(&family) || index.is_multiple_of(4)
+}
+
 /// Compares all traces of the plan, up to the first difference.
-pub fn run(replay: &Path, plan: Plan) -> Outcome<Counts> {
+pub fn run(programs: Programs, plan: Plan) -> Outcome<Counts> {
     let progress = Progress { compared: AtomicU64::new(0), started: Instant::now() };
     let total = plan.fixed.saturating_add(plan.fresh);
     crew::take_all(total, coverage::new, Counts::add, |at, coverage| {
-        one(replay, plan.trace(at), at, coverage)?;
+        one(&programs, &plan, at, coverage)?;
         if plan.report {
             progress.one();
         }
@@ -74,26 +87,12 @@ impl Progress {
 }
 
 /// Compares one trace; the error is what is to be said of a difference.
-fn one(
-    replay: &Path,
-    (seed, index, family, trace): (u64, u64, &'static str, Vec<u8>),
-    at: u64,
-    coverage: &mut Counts,
-) -> Result<(), String> {
-    let mut expected = Vec::new();
-    independent::trace::replay(&trace, &mut expected);
+fn one(programs: &Programs, plan: &Plan, at: u64, coverage: &mut Counts) -> Result<(), String> {
+    let (seed, index, family, trace) = plan.trace(at);
     coverage.see(family);
-    let what = if observe(&trace, coverage) != expected {
-        "the independent program lists another way when it is observed".to_string()
-    } else {
-        match feed(replay, &trace, at) {
-            Err(error) => format!("cannot run {}: {error}", replay.display()),
-            Ok(output) if output.stdout != expected => first_difference(&output.stdout, &expected),
-            Ok(output) if !output.status.success() => {
-                format!("listings equal, but {}", output.status)
-            }
-            Ok(_) => return Ok(()),
-        }
+    let converts = converts(family, index);
+    let Err(what) = programs_agree(programs, &trace, at, converts, coverage) else {
+        return Ok(());
     };
     let kept = match keep(seed, index, &trace) {
         Ok(name) => format!("trace written to {}", name.display()),
@@ -102,40 +101,25 @@ fn one(
     Err(format!("difference at seed {seed}, trace {index} ({family})\n{kept}\n{what}"))
 }
 
-/// Runs the program on a trace. The ways to hand it over take turns: a file, a pipe, and a pipe
-/// in small pieces, since a reader may treat them differently.
-fn feed(replay: &Path, trace: &[u8], at: u64) -> io::Result<Output> {
-    let mut command = Command::new(replay);
-    command.stdout(Stdio::piped()).stderr(Stdio::piped());
-    if at.is_multiple_of(3) {
-        return command.stdin(file(trace, at)?).output();
+fn programs_agree(
+    programs: &Programs,
+    trace: &[u8],
+    at: u64,
+    converts: bool,
+    coverage: &mut Counts,
+) -> Result<(), String> {
+    let mut expected = Vec::new();
+    independent::trace::replay(trace, &mut expected);
+    if observe(trace, coverage) != expected {
+        return Err("the independent program lists another way when it is observed".to_string());
     }
-    let mut child = command.stdin(Stdio::piped()).spawn()?;
-    let mut input = child.stdin.take().expect("a pipe was asked for");
-    let piece = if at % 3 == 1 { trace.len().max(1) } else { 1 + (at / 3 % 40) as usize };
-    // A thread feeds while this one drains, or two full pipes would wait for each other. A
-    // program that stops reading at a bad record breaks the pipe: its listing decides.
-    thread::scope(|scope| {
-        scope.spawn(move || {
-            for bytes in trace.chunks(piece) {
-                if input.write_all(bytes).is_err() {
-                    break;
-                }
-            }
-        });
-        child.wait_with_output()
-    })
-}
-
-/// An open file with the trace and no name, so nothing is left behind.
-fn file(trace: &[u8], at: u64) -> io::Result<File> {
-    let name = format!("differential-{}-{at}", std::process::id());
-    let name = std::env::temp_dir().join(name);
-    let mut file = File::options().read(true).write(true).create_new(true).open(&name)?;
-    fs::remove_file(&name)?;
-    file.write_all(trace)?;
-    file.rewind()?;
-    Ok(file)
+    expect(programs.replay, trace, at, &expected, |listing| {
+        first_difference(("replay", listing), ("independent", &expected))
+    })?;
+    if converts {
+        conversion::compare(programs, trace, &expected, at, coverage)?;
+    }
+    Ok(())
 }
 
 fn keep(seed: u64, index: u64, trace: &[u8]) -> io::Result<PathBuf> {
@@ -144,17 +128,19 @@ fn keep(seed: u64, index: u64, trace: &[u8]) -> io::Result<PathBuf> {
     Ok(name)
 }
 
-/// The first line in which two listings differ.
-fn first_difference(replay: &[u8], independent: &[u8]) -> String {
+/// The first line in which two listings differ, each with the name of whoever gave it.
+pub fn first_difference(left: (&str, &[u8]), right: (&str, &[u8])) -> String {
     let split = |listing: &[u8]| -> Vec<String> {
         let lines = listing.split_inclusive(|byte| *byte == b'\n');
         lines.map(|line| line.escape_ascii().to_string()).collect()
     };
-    let (left, right) = (split(replay), split(independent));
-    let at = left.iter().zip(&right).take_while(|(left, right)| left == right).count();
-    let show = |lines: &[String]| match lines.get(at) {
-        Some(line) => line.clone(),
-        None => "(no line)".to_string(),
-    };
-    format!("line {}\n  replay      {}\n  independent {}", at + 1, show(&left), show(&right))
+    let all = [left, right].map(|(name, listing)| (name, split(listing)));
+    let [(_, left), (_, right)] = &all;
+    let at = left.iter().zip(right).take_while(|(left, right)| left == right).count();
+    let mut text = format!("line {}", at + 1);
+    for (name, lines) in &all {
+        let line = lines.get(at).map_or("(no line)", String::as_str);
+        text.push_str(&format!("\n  {name:<11} {line}"));
+    }
+    text
 }

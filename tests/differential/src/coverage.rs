@@ -5,6 +5,7 @@ use shared::coverage::{Counts, Groups, CDMACR_BITS, CDMASR_BITS};
 use shared::key_hole::{RUNS, WRITES};
 use shared::key_hole_bursts::BURSTS;
 
+use crate::conversion::CONVERSIONS;
 use crate::families::FAMILIES;
 use crate::situations::SITUATIONS;
 
@@ -28,7 +29,7 @@ const NUMBERED: &Groups = &[
 ];
 
 pub fn new() -> Counts {
-    let names = [&WORDS[..], SITUATIONS, WRITES, BURSTS, RUNS, &FAMILIES];
+    let names = [&WORDS[..], SITUATIONS, CONVERSIONS, WRITES, BURSTS, RUNS, &FAMILIES];
     Counts::new(NUMBERED, names.into_iter().flatten().copied())
 }
 
@@ -39,6 +40,7 @@ pub fn print(counts: &Counts) -> usize {
         + counts.print_numbers(NUMBERED)
         + counts.print_tables()
         + counts.print_list("situations", SITUATIONS)
+        + counts.print_list("conversions", CONVERSIONS)
         + counts.print_list("key hole bits written", WRITES)
         + counts.print_list("bursts with a fixed side", BURSTS)
         + counts.print_list("runs with a fixed side", RUNS)

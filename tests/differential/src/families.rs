@@ -25,6 +25,9 @@ pub const FAMILIES: [&str; 12] = [
     "long",
 ];
 
+/// The families of the catalogue.
+pub const CATALOGUED: [&str; 3] = ["case", "prefix", "changed byte"];
+
 /// Fixed trace number `index`: every second one from the catalogue until that is used up.
 pub fn fixed(index: u64) -> (&'static str, Vec<u8>) {
     static CATALOGUE: OnceLock<Vec<(&'static str, Vec<u8>)>> = OnceLock::new();

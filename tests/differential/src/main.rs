@@ -1,14 +1,16 @@
-// Compares the proved replay program with the independent one, byte by byte, on generated traces.
+// Compares the proved programs with the independent one, byte by byte, on generated traces.
 
 mod bench;
 mod catalogue;
 mod chains;
 mod clocks;
 mod compare;
+mod conversion;
 mod copies;
 mod coverage;
 mod damage;
 mod families;
+mod feed;
 mod maker;
 mod observe;
 mod observe_steps;
@@ -17,7 +19,7 @@ mod queues;
 mod situations;
 
 use std::io::Write;
-use std::path::{Path, PathBuf};
+use std::path::PathBuf;
 use std::process::ExitCode;
 
 use shared::coverage::Counts;
@@ -25,9 +27,9 @@ use shared::crew::Outcome;
 use shared::random::fresh_seed;
 
 const USAGE: &str = "usage:
-  differential compare --replay PATH --traces N --fresh M [--seed S]
+  differential compare --replay PATH --convert PATH --traces N --fresh M [--seed S]
       compares N fixed traces and M fresh ones; a fresh run is repeated with its seed S
-  differential soak --replay PATH [--traces N] [--seed S]
+  differential soak --replay PATH --convert PATH [--traces N] [--seed S]
       compares fresh traces until stopped, or N of them
   differential make KIND --records N
       writes a trace of N records; KIND is mixed, bus, copies or chains
@@ -64,10 +66,15 @@ fn needed(arguments: &[String], name: &str) -> Result<u64, String> {
 /// Compares the traces of a plan, whose fresh ones come from `--seed` or from a new seed, and
 /// prints what came out; the last line is the count.
 fn compare(arguments: &[String], mut plan: compare::Plan) -> Result<ExitCode, String> {
-    let replay = option(arguments, "--replay").ok_or("--replay PATH is missing")?;
+    let path = |name: &str| match option(arguments, name) {
+        Some(path) => Ok(PathBuf::from(path)),
+        None => Err(format!("{name} PATH is missing")),
+    };
+    let (replay, convert) = (path("--replay")?, path("--convert")?);
+    let programs = compare::Programs { replay: &replay, convert: &convert };
     plan.seed = number(arguments, "--seed")?.unwrap_or_else(fresh_seed);
     println!("fresh traces with --seed {}", plan.seed);
-    let Outcome { counts, taken, difference } = compare::run(Path::new(&replay), plan);
+    let Outcome { counts, taken, difference } = compare::run(programs, plan);
     Ok(match difference {
         Some(difference) => {
             println!("{difference}\ncompared {taken} traces, 1 different");

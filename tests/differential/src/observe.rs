@@ -1,7 +1,7 @@
 // Counts what one trace did: the words, answers and bits from the independent listing, and all that
 // a listing does not show by looking on as the independent program replays the trace.
 
-use independent::answer::{self, settings_listed};
+use independent::answer;
 use independent::engine::{Engine, Event, Phase, Transfer};
 use independent::memory::MOST_WINDOWS;
 use independent::monitor::Clock;
@@ -23,6 +23,8 @@ const TOP: u64 = 1 << 32;
 pub fn observe(trace: &[u8], coverage: &mut Counts) -> Vec<u8> {
     coverage.see_if(trace.is_empty(), "empty trace");
     coverage.see_if(!trace.is_empty() && !trace.starts_with(b"CF"), "trace without CF");
+    coverage.see_if(trace.len() == 1, "trace of one byte");
+    coverage.see_if(trace == b"C", "trace of the byte C alone");
     let mut listing = Vec::new();
     replay_before(trace, &mut listing, &mut Watcher::new(coverage));
     count_lines(&listing, coverage);
@@ -51,7 +53,13 @@ impl Watcher<'_> {
 }
 
 impl Observer for Watcher<'_> {
+    fn defaulted(&mut self, _: &Replay) {
+        self.memo.default = true;
+        self.coverage.see("default line");
+    }
+
     fn record(&mut self, replay: &Replay, record: &Record<&[u8]>) {
+        self.coverage.see_if(behind_zero(replay), "record after a CF of number 0");
         before(replay, record, &mut self.memo, self.coverage);
         self.start.clone_from(&replay.engine);
         self.flags = replay.monitor.flags;
@@ -61,6 +69,9 @@ impl Observer for Watcher<'_> {
 
     fn carried_out(&mut self, replay: &Replay, record: &Record<&[u8]>) {
         match record {
+            Record::Settings { .. } => {
+                self.coverage.see_if(replay.last == 0, "CF of number 0");
+            }
             Record::Steps { steps } => {
                 run(&replay.engine, self.steps, usize::from(*steps), self.coverage);
                 let (taken, most) = (self.steps as u32, u32::from(*steps));
@@ -75,12 +86,17 @@ impl Observer for Watcher<'_> {
     }
 
     fn refused(&mut self, replay: &Replay, trace: &[u8], answer: u32) {
-        match read(trace, replay.place == 0) {
-            Err(cause) => unreadable(trace, replay.last, cause, self.coverage),
+        let first = replay.place == 0;
+        let default = first && self.memo.default;
+        self.coverage.see_if(default, "default line before a refused record");
+        match read(trace, first) {
+            Err(cause) => unreadable(trace, replay, cause, self.coverage),
             Ok((sequence, record, rest)) => {
                 if answer == answer::SEQUENCE {
                     old_number(replay, &record, sequence, self.coverage);
                 }
+                let zero = sequence == 0 && answer == answer::SETTINGS;
+                self.coverage.see_if(zero, "CF of number 0 with settings off the lists");
                 self.coverage.see_if(!rest.is_empty(), "records after a bad one");
             }
         }
@@ -101,6 +117,11 @@ impl Observer for Watcher<'_> {
         };
         one_step(&step, &mut self.memo, self.coverage);
     }
+}
+
+/// Is the next record right behind a CF of number 0? All other good numbers are above 0.
+fn behind_zero(replay: &Replay) -> bool {
+    replay.place > 0 && replay.last == 0
 }
 
 /// Counts the listing's lines.
@@ -129,7 +150,7 @@ fn count_lines(listing: &[u8], coverage: &mut Counts) {
 }
 
 /// A record that gets answer 10.
-fn unreadable(rest: &[u8], last: u32, cause: Cause, coverage: &mut Counts) {
+fn unreadable(rest: &[u8], replay: &Replay, cause: Cause, coverage: &mut Counts) {
     coverage.see(match cause {
         Cause::CutInHead => "cut in a head",
         Cause::CutInBody => "cut in a body",
@@ -139,24 +160,29 @@ fn unreadable(rest: &[u8], last: u32, cause: Cause, coverage: &mut Counts) {
         Cause::LateSettings => "late CF",
     });
     coverage.see_if(rest.len() == 1, "one byte left over");
+    coverage.see_if(replay.place == 0 && rest.starts_with(b"CF"), "cut CF");
     if rest.len() >= 6 {
         let sequence = u32::from_le_bytes([rest[2], rest[3], rest[4], rest[5]]);
-        coverage.see_if(sequence <= last, "old number beside answer 10");
+        coverage.see_if(sequence <= replay.last, "old number beside answer 10");
+        let late = cause == Cause::LateSettings;
+        coverage.see_if(late && sequence == 0, "late CF of number 0");
     }
 }
 
-/// A record that gets answer 11.
+/// A record that gets answer 11, so no CF: as a first record it may have any number, and later it
+/// gets answer 10.
 fn old_number(replay: &Replay, record: &Record<&[u8]>, sequence: u32, coverage: &mut Counts) {
     let last = replay.last;
     coverage.see_if(sequence == 0, "number of zero");
+    coverage.see_if(replay.place == 0, "default line before a number of zero");
+    coverage.see_if(behind_zero(replay), "number 0 after a CF of number 0");
     coverage.see_if(sequence == last && last != 0, "number repeated");
     coverage.see_if(sequence < last, "number falling");
     let own = match record {
-        Record::Settings { width, beats } => !settings_listed(u32::from(*width), u32::from(*beats)),
         Record::Memory { address, bytes } => past_end(*address, bytes) > 0,
         Record::Window { .. } => replay.windows().len() == MOST_WINDOWS,
         Record::Write { offset, .. } | Record::Read { offset } => none_at(u32::from(*offset)),
-        Record::Steps { .. } => false,
+        Record::Settings { .. } | Record::Steps { .. } => false,
         Record::Bus(bus) => !fields_out(bus).is_empty(),
     };
     coverage.see_if(own, "old number beside the record's own answer");

@@ -2,7 +2,7 @@
 
 use independent::engine::{Engine, Event, Outcome, Phase};
 use independent::memory::{Window, MOST_WINDOWS};
-use shared::bursts::{Burst, Side};
+use shared::bursts::{full_piece, Burst, Side};
 use shared::coverage::Counts;
 use shared::key_hole::{see_start, BY_DESCRIPTOR};
 use shared::key_hole_bursts::see_burst;
@@ -33,6 +33,8 @@ pub struct Written {
 
 /// What is remembered of a trace from record to record.
 pub struct Memo {
+    /// The trace got the default settings.
+    pub default: bool,
     /// The last good update ended at the tail, and next was not set since.
     pub at_tail: bool,
     pub mode_changed: bool,
@@ -52,6 +54,7 @@ pub struct Memo {
 impl Memo {
     pub fn new() -> Memo {
         Memo {
+            default: false,
             at_tail: false,
             mode_changed: false,
             restart: false,
@@ -137,6 +140,18 @@ fn burst(step: &Step) -> Burst {
     Burst::before(step.before).expect("a burst of an engine that moves")
 }
 
+/// Beats of a trace without CF before there was a default line.
+const OLDER_BEATS: u32 = 16;
+
+/// A good burst with the default settings: is it one that the older ones would have cut?
+fn default_burst(step: &Step, burst: &Burst, coverage: &mut Counts) {
+    let older = Engine { beats: OLDER_BEATS, ..step.before.clone() };
+    let cut = Burst::before(&older).is_some_and(|older| older.bytes < burst.bytes);
+    coverage.see_if(cut, "default line and a burst that 16 beats would have cut");
+    let full = burst.destination.fixed && burst.bytes == full_piece(&older);
+    coverage.see_if(full, "default line and a full piece to a fixed destination");
+}
+
 /// What the bytes of a good burst have, from those that it read.
 fn written(burst: &Burst, memo: &mut Memo) {
     let places = |side: &Side| {
@@ -160,6 +175,9 @@ fn written(burst: &Burst, memo: &mut Memo) {
 fn moved(step: &Step, to: u32, bytes: u32, memo: &mut Memo, coverage: &mut Counts) {
     let burst = burst(step);
     written(&burst, memo);
+    if memo.default {
+        default_burst(step, &burst, coverage);
+    }
     if burst.has_fixed_side() {
         see_burst(step.before, MEMORY.into(), step.windows, true, coverage);
         return;

@@ -33,7 +33,7 @@ recordsOf beats input = linesFrom (mostTurns * length input) 0 input (silent bea
 abbrev pub carriesZero : List ℕ → Bool
 carriesZero t = both (settingsAt t 0) (both (leb 10 (length t)) (eqb (wordAt t 2) 0))
 
--- the older listing: without CF L=16, and no line says so; CF could not carry 0
+-- the older listing: today's records, but without CF L=16, and no line says so; CF could not carry 0
 abbrev pub olderLinesOf : List ℕ → List Line
 olderLinesOf t = when (carriesZero t) (badLineOf 0 (numberOf answers.Sequence) 0 ∷ []) (recordsOf 16 t)
 

@@ -15,9 +15,7 @@ pub fn make(kind: &str, count: usize) -> Vec<u8> {
     let mut maker = Maker::new(Random::new(FIXED, 0));
     maker.dense = true;
     maker.most = count;
-    if kind != "bus" {
-        maker.settings(4, 16);
-    }
+    maker.settings(4, 16);
     if kind == "chains" {
         maker.write(CDMACR, CHAIN);
         maker.write(CURDESC, 0);

@@ -39,38 +39,38 @@ unstopped : (none all accepted busy : Bool) → none ≡ false → all ≡ false
     → either none (either all (either (not accepted) (not busy))) ≡ false
 unstopped none all accepted busy a b c d = rw (a, b, c, d)
 
-module _ (s : Session) (w : List ℕ) (base : ℕ) (input : List ℕ) (at : ℕ) where
+module _ (s : Session) (o : Engine) (w : List ℕ) (base : ℕ) (input : List ℕ) (at : ℕ) where
   abbrev lentOf : List ℕ
   lentOf = take (usedOf (s .windows)) w
 
   -- the session after an ST
   abbrev rested : Engine → Session
-  rested e = record { engine = e; monitor = s .monitor; sequence = s .sequence; windows = s .windows; mode = Records }
+  rested e = record { engine = e; monitor = s .monitor; sequence = s .sequence; windows = s .windows; chosen = s .chosen; mode = Records }
 
   -- an ST of n steps more, `taken` of which are behind it, ends as its acts say
   abbrev Ends : ℕ → Engine → List ℕ → List Act → Type 0
   Ends n e m acts = (taken : ℕ) (text : List ℕ) → taken + n ≤ mostSteps → acceptedOf e (s .windows) (length m) ≡ true → Bytes m
-      → turnsOf (steps acts + 1) base input (replayAs (stepping s e n taken) at (lend m w) text)
-      ≡ replayAs (rested (after e acts)) at (lend (left m e acts) w)
+      → turnsOf (steps acts + 1) base input (replayAs (stepping s e n taken) at (lend m w o) text)
+      ≡ replayAs (rested (after e acts)) at (lend (left m e acts) w o)
       (text ++ (eventLines (s .sequence) (events e acts) ++ lineOf (stopLineOf (s .sequence) (taken + steps acts) (after e acts .phase))))
 
   stops : (n : ℕ) (e : Engine) (m : List ℕ) (taken : ℕ) (text : List ℕ) → stopsOf (e .phase) n taken (acceptedOf e (s .windows) (length m)) ≡ true
-      → turnsOf 1 base input (replayAs (stepping s e n taken) at (lend m w) text)
-      ≡ replayAs (rested e) at (lend m w) (text ++ lineOf (stopLineOf (s .sequence) (taken + 0) (e .phase)))
+      → turnsOf 1 base input (replayAs (stepping s e n taken) at (lend m w o) text)
+      ≡ replayAs (rested e) at (lend m w o) (text ++ lineOf (stopLineOf (s .sequence) (taken + 0) (e .phase)))
   unfolding turnsOf
   stops n e m taken text stop =
       let none : taken ≡ taken + 0 = omega arith in
-      stop-turn s e n taken (lend m w) base input at stop text
-      ∙ ap (λ (k : ℕ). replayAs (rested e) at (lend m w) (text ++ lineOf (stopLineOf (s .sequence) k (e .phase)))) none
+      stop-turn s e n taken (lend m w o) base input at stop text
+      ∙ ap (λ (k : ℕ). replayAs (rested e) at (lend m w o) (text ++ lineOf (stopLineOf (s .sequence) k (e .phase)))) none
 
   goes-on : (n : ℕ) (e : Engine) (m : List ℕ) (taken : ℕ) (text : List ℕ) → taken < mostSteps → acceptedOf e (s .windows) (length m) ≡ true
       → busyOf (e .phase) ≡ true
       → let r = advanceOf e m (windowsOf lentOf) in
-      turnsOf 1 base input (replayAs (stepping s e (suc n) taken) at (lend m w) text)
-      ≡ replayAs (stepping s (r .engine) (suc n - 1) (taken + 1)) at (lend (r .memory) w) (text ++ lineOf (eventLineOf (s .sequence) (r .event)))
+      turnsOf 1 base input (replayAs (stepping s e (suc n) taken) at (lend m w o) text)
+      ≡ replayAs (stepping s (r .engine) (suc n - 1) (taken + 1)) at (lend (r .memory) w o) (text ++ lineOf (eventLineOf (s .sequence) (r .event)))
   unfolding turnsOf
   goes-on n e m taken text few accepted busy =
-      step-turn s e (suc n) taken (lend m w) base input at
+      step-turn s e (suc n) taken (lend m w o) base input at
       (unstopped (eqb (suc n) 0) (leb mostSteps taken) (acceptedOf e (s .windows) (length m)) (busyOf (e .phase)) (ne-eqb (suc n) 0 (λ z. omega arith)) (lt-leb mostSteps taken few) accepted busy) refl text
 
   ends : (n : ℕ) (e : Engine) (m : List ℕ) → Ends n e m (stepsOf n e m (windowsOf lentOf))
@@ -88,13 +88,13 @@ module _ (s : Session) (w : List ℕ) (base : ℕ) (input : List ℕ) (at : ℕ)
       let turns : suc (steps later) + 1 ≡ 1 + (steps later + 1) = omega arith in
       let left-over : suc n - 1 ≡ n = omega arith in
       let counted : taken + 1 + steps later ≡ taken + suc (steps later) = omega arith in
-      ap (λ (k : ℕ). turnsOf k base input (replayAs (stepping s e (suc n) taken) at (lend m w) text)) turns
-      ∙ turns-join 1 (steps later + 1) base input (replayAs (stepping s e (suc n) taken) at (lend m w) text)
+      ap (λ (k : ℕ). turnsOf k base input (replayAs (stepping s e (suc n) taken) at (lend m w o) text)) turns
+      ∙ turns-join 1 (steps later + 1) base input (replayAs (stepping s e (suc n) taken) at (lend m w o) text)
       ∙ ap (turnsOf (steps later + 1) base input) (goes-on n e m taken text (omega arith) accepted busy
-      ∙ ap (λ (k : ℕ). replayAs (stepping s (r .engine) k (taken + 1)) at (lend (r .memory) w) (text ++ line)) left-over)
+      ∙ ap (λ (k : ℕ). replayAs (stepping s (r .engine) k (taken + 1)) at (lend (r .memory) w o) (text ++ line)) left-over)
       ∙ more (taken + 1) (text ++ line) (omega arith) (accepted-on e (s .windows) m (windowsOf lentOf) bytes accepted) (advance-keeps e m (windowsOf lentOf) .bytes bytes)
-      ∙ ap (λ (k : ℕ). replayAs (rested end) at (lend (left (r .memory) (r .engine) later) w) (text ++ line ++ (lines ++ lineOf (stopLineOf (s .sequence) k (end .phase))))) counted
-      ∙ ap (replayAs (rested end) at (lend (left (r .memory) (r .engine) later) w))
+      ∙ ap (λ (k : ℕ). replayAs (rested end) at (lend (left (r .memory) (r .engine) later) w o) (text ++ line ++ (lines ++ lineOf (stopLineOf (s .sequence) k (end .phase))))) counted
+      ∙ ap (replayAs (rested end) at (lend (left (r .memory) (r .engine) later) w o))
       (append-assoc text line (lines ++ lineOf (stopLineOf (s .sequence) (taken + suc (steps later)) (end .phase)))
       ∙ ap (λ (x : List ℕ). text ++ x) (sym (append-assoc line lines (lineOf (stopLineOf (s .sequence) (taken + suc (steps later)) (end .phase)))))))
 
@@ -115,22 +115,22 @@ steps-listed s lent n mode few sound base input at text = go (judged (s .engine)
     acts = stepsOf n (s .engine) (lent .memory) (windowsOf windows)
 
     accepted : acceptedOf (s .engine) (s .windows) (length (lent .memory)) ≡ true
-    accepted = sessions .accepted s (lent .memory) (lent .windows) sound
+    accepted = sessions .accepted s (lent .other) (lent .memory) (lent .windows) sound
 
     go : Judged (s .engine) (lent .memory) windows
         → let run = runOf n (s .engine) (lent .memory) windows in
         let told = eventsOf n (s .engine) (lent .memory) windows in
         turnsOf (length told + 1) base input (replayAs s at lent text)
-        ≡ replayAs (rested s (lent .windows) base input at (run .engine)) at (lend (run .memory) (lent .windows))
+        ≡ replayAs (rested s (lent .other) (lent .windows) base input at (run .engine)) at (lend (run .memory) (lent .windows) (lent .other))
         (text ++ (eventLines (s .sequence) told ++ lineOf (stopLineOf (s .sequence) (run .steps) (run .engine .phase))))
     go (bars z d) =
-        absurd (z (ap (refusalOf (s .engine) (length (lent .memory))) (lent-windows (s .windows) (lent .windows) (sound .room)) ∙ eqb-true (refusalOf (s .engine) (length (lent .memory)) (min (s .windows) mostWindows)) 0 accepted))
+        absurd (z (ap (refusalOf (s .engine) (length (lent .memory))) (lent-windows (s .windows) (lent .windows) (sound .chosen .room)) ∙ eqb-true (refusalOf (s .engine) (length (lent .memory)) (min (s .windows) mostWindows)) 0 accepted))
     go (goes e d) =
         let k = d n in
-        let same : s ≡ stepping s (s .engine) n 0 = λ i. record { engine = s .engine; monitor = s .monitor; sequence = s .sequence; windows = s .windows; mode = mode i } in
+        let same : s ≡ stepping s (s .engine) n 0 = λ i. record { engine = s .engine; monitor = s .monitor; sequence = s .sequence; windows = s .windows; chosen = s .chosen; mode = mode i } in
         let count = ap (λ (x : ℕ). x + 1) (ap length (k .events) ∙ events-length (s .engine) acts) in
         let all : 0 + steps acts ≡ steps acts = omega arith in
         ap₂ (λ (x : ℕ) (y : Session). turnsOf x base input (replayAs y at lent text)) count same
-        ∙ ends s (lent .windows) base input at n (s .engine) (lent .memory) 0 text (omega arith) accepted (sound .bytes)
-        ∙ (λ i. replayAs (rested s (lent .windows) base input at (sym (k .engine) i)) at (lend (sym (k .memory) i) (lent .windows))
+        ∙ ends s (lent .other) (lent .windows) base input at n (s .engine) (lent .memory) 0 text (omega arith) accepted (sound .chosen .bytes)
+        ∙ (λ i. replayAs (rested s (lent .other) (lent .windows) base input at (sym (k .engine) i)) at (lend (sym (k .memory) i) (lent .windows) (lent .other))
         (text ++ (eventLines (s .sequence) (sym (k .events) i) ++ lineOf (stopLineOf (s .sequence) ((all ∙ sym (k .steps)) i) (sym (k .engine) i .phase)))))

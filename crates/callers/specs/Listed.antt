@@ -20,13 +20,13 @@ eventLines sequence [] = []
 eventLines sequence (e ∷ more) = lineOf (eventLineOf sequence e) ++ eventLines sequence more
 
 -- an ST of n steps that was just read, in any session of a replay: the turns that end it, one for each event and one for
--- `stop`, leave what a run of n steps leaves, and print its events and its steps
+-- `stop`, leave what a run of n steps leaves, and print its events and its steps; of two engines the other one stays as it is
 abbrev pub StepsListed : Type 0
-StepsListed = (s : Session) (lent : Lent) (n : ℕ) → s .mode ≡ Steps n 0 → n ≤ mostSteps → SoundIn s (lent .memory) (lent .windows)
+StepsListed = (s : Session) (lent : Lent) (n : ℕ) → s .mode ≡ Steps n 0 → n ≤ mostSteps → SoundIn s (lent .other) (lent .memory) (lent .windows)
     → (base : ℕ) (input : List ℕ) (at : ℕ) (text : List ℕ)
     → let windows = take (usedOf (s .windows)) (lent .windows) in
     let run = runOf n (s .engine) (lent .memory) windows in
     let told = eventsOf n (s .engine) (lent .memory) windows in
     turnsOf (length told + 1) base input (replayAs s at lent text)
-    ≡ replayAs (withMode (withEngine s (s .sequence) (run .engine)) Records) at (lend (run .memory) (lent .windows))
+    ≡ replayAs (withMode (withEngine s (s .sequence) (run .engine)) Records) at (lend (run .memory) (lent .windows) (lent .other))
     (text ++ (eventLines (s .sequence) told ++ lineOf (stopLineOf (s .sequence) (run .steps) (run .engine .phase))))

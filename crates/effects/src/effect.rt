@@ -11,6 +11,7 @@ use session::Effect;
 use session::Mode;
 use session::Session;
 use session::bad::bad_line;
+use session::chosen::chosen_at_start;
 use state::engine::fresh;
 ghost use mathlib.Core.Path.{_≡_};
 ghost use Prim.Native.Nat.{_+_, _≤_};
@@ -30,13 +31,21 @@ pub fn bad(session: Session, answer: Answer, position: u64) -> Effect
     Effect { session, line }
 }
 
-pub fn settings(session: Session, sequence: u32, width: u32, beats: u32, position: u64) -> Effect
-    ensures { λ r. ⌜ r ≡ settingsOf session sequence width beats position ⌝ }
+pub fn settings(
+    session: Session,
+    sequence: u32,
+    two: bool,
+    width: u32,
+    beats: u32,
+    position: u64,
+) -> Effect
+    ensures { λ r. ⌜ r ≡ settingsOf session sequence two width beats position ⌝ }
 {
     if !legal(Settings { width, beats }) {
         return bad(session, Answer::Settings, position);
     }
     let engine = fresh(Settings { width, beats });
+    let chosen = chosen_at_start(two);
     let line = Line {
         sequence,
         word: Word::Set,
@@ -46,6 +55,7 @@ pub fn settings(session: Session, sequence: u32, width: u32, beats: u32, positio
     let session = Session {
         engine,
         sequence,
+        chosen,
         ..session
     };
     Effect { session, line }

@@ -55,18 +55,19 @@ pub record Kept (f r : Flow) : Type 0 where
   pub within : r .filled ≤ room
   pub place : r .position ≡ f .position
   pub session : r .session ≡ f .session
+  pub other : r .other ≡ f .other
 
 read-kept : (f : Flow) (answer : ℤ) (interrupted : Bool) → f .at ≤ f .filled → f .filled ≤ room → Moved (room - leftOf f) answer
     → Kept f (afterRead f answer interrupted)
-read-kept f (pos n) interrupted h i moved = record { begins = omega arith; within = omega (arith, moved); place = refl; session = refl }
-read-kept f (negsuc n) interrupted h i moved = record { begins = omega arith; within = omega arith; place = refl; session = refl }
+read-kept f (pos n) interrupted h i moved = record { begins = omega arith; within = omega (arith, moved); place = refl; session = refl; other = refl }
+read-kept f (negsuc n) interrupted h i moved = record { begins = omega arith; within = omega arith; place = refl; session = refl; other = refl }
 
 module _ {f : Flow} {b : List ℕ} {r : Flow} {b′ : List ℕ} (fits : Fits f b) (t : Refills f b r b′) where
   pub refill-kept : Kept f r
   refill-kept =
       subst (Kept f) (sym (t .is))
       (cases (Kept f) (wantsOf f) (λ _. read-kept f (t .answer) (t .interrupted) (fits .begins) (fits .within) (t .moved))
-      (λ _. record { begins = fits .begins; within = fits .within; place = refl; session = refl }))
+      (λ _. record { begins = fits .begins; within = fits .within; place = refl; session = refl; other = refl }))
 
   pub refill-fits : Fits r b′
   refill-fits = record { begins = refill-kept .begins; within = refill-kept .within; size = t .size }

@@ -10,7 +10,7 @@ use Rattle.kit.specs.Choice.{when, both}
 use Rattle.record.specs.Claims.{longest}
 use Rattle.session.specs.declared.Mode.{Mode}
 use Rattle.session.specs.declared.Mode.the-variants.{Start, Records, Steps, Over}
-use Rattle.session.specs.declared.Passed.{Passed}
+use Rattle.session.specs.declared.AfterPass.{AfterPass}
 use Rattle.session.specs.Effect.{startOf}
 use Rattle.flow.specs.declared.flow.Flow.{Flow}
 
@@ -32,9 +32,9 @@ pub record Fits (f : Flow) (b : List ℕ) : Type 0 where
   pub within : f .filled ≤ room
   pub size : length b ≡ room
 
--- at the start nothing is pending; without a reader of the header the replay is over
+-- at the start nothing is pending, and a second engine is as the first; without a reader of the header the replay is over
 abbrev pub openedOf : Bool → Flow
-openedOf sent = record { session = startOf; position = 0; at = 0; filled = 0; ended = false; over = not sent }
+openedOf sent = record { session = startOf; other = startOf .engine; position = 0; at = 0; filled = 0; ended = false; over = not sent }
 
 -- a read is due: the trace goes on, and a record may be cut off by the end of the pending bytes
 abbrev pub wantsOf : Flow → Bool
@@ -45,9 +45,9 @@ wantsOf f = when (f .ended) false (ltb (leftOf f) longest)
 -- replay is over.
 abbrev pub afterRead : Flow → ℤ → Bool → Flow
 afterRead f (pos n) interrupted =
-    record { session = f .session; position = f .position; at = 0; filled = leftOf f + n; ended = eqb n 0; over = f .over }
+    record { session = f .session; other = f .other; position = f .position; at = 0; filled = leftOf f + n; ended = eqb n 0; over = f .over }
 afterRead f (negsuc n) interrupted =
-    record { session = f .session; position = f .position; at = 0; filled = leftOf f; ended = f .ended; over = not interrupted }
+    record { session = f .session; other = f .other; position = f .position; at = 0; filled = leftOf f; ended = f .ended; over = not interrupted }
 
 -- there is nothing more to print: after a bad line, or at the trace's end with no byte and no step left
 abbrev pub finishedOf : Mode → ℕ → Bool → Bool
@@ -60,11 +60,12 @@ finishedOf Records left ended = when ended (eqb left 0) false
 abbrev pub overOf : Bool → Mode → ℕ → Bool → Bool
 overOf sent mode left ended = when sent (finishedOf mode left ended) true
 
--- after a pass: its session, and its bytes used
-abbrev pub afterPass : Flow → Passed → Bool → Flow
+-- after a pass: its session and engines, and its bytes used
+abbrev pub afterPass : Flow → AfterPass → Bool → Flow
 afterPass f p sent =
     record {
       session = p .session;
+      other = p .other;
       position = f .position + p .at;
       at = f .at + p .at;
       filled = f .filled;

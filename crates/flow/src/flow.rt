@@ -1,18 +1,20 @@
 // What a replay keeps from one turn to the next, and what a read and a pass make of it. Nothing here calls the system.
+use session::AfterPass;
 use session::LONGEST_RECORD;
 use session::Mode;
-use session::Passed;
 use session::Session;
 use session::start;
+use state::engine::Engine;
 ghost use mathlib.Core.Path.{_≡_};
 ghost use Prim.Native.Nat.{_+_, _-_, _≤_, _<_, _^_};
 ghost use Rattle.libc.specs.Io.{Moved};
 ghost use Rattle.flow.specs.Flow.{openedOf, wantsOf, leftOf, room, afterRead, overOf, afterPass};
 
-// The session; the place in the whole trace of the byte at `at`; and the part of the buffer, from `at` up to `filled`,
+// The session, with the engine that is not the chosen one beside it; the place in the whole trace of the byte at `at`; and the part of the buffer, from `at` up to `filled`,
 // whose bytes are pending: read, but not used yet. `ended` says that the trace ends with them, `over` that no turn is to come.
 pub struct Flow {
     pub session: Session,
+    pub other: Engine,
     pub position: u64,
     pub at: usize,
     pub filled: usize,
@@ -25,8 +27,10 @@ pub fn opened(sent: bool) -> Flow
     ensures { λ r. ⌜ r ≡ openedOf sent ⌝ }
 {
     let session = start();
+    let other = session.engine;
     Flow {
         session,
+        other,
         position: 0,
         at: 0,
         filled: 0,
@@ -87,7 +91,7 @@ fn is_over(sent: bool, mode: Mode, left: usize, ended: bool) -> bool
 }
 
 // After a pass over the pending bytes; `sent` says that its text was taken.
-pub fn after_pass(flow: Flow, passed: Passed, sent: bool) -> Flow
+pub fn after_pass(flow: Flow, passed: AfterPass, sent: bool) -> Flow
     requires { ⌜ (flow .at + passed .at ≤ flow .filled) × (flow .position + passed .at < 2 ^ 64) ⌝ }
     ensures { λ r. ⌜ r ≡ afterPass flow passed sent ⌝ }
 {
@@ -96,8 +100,10 @@ pub fn after_pass(flow: Flow, passed: Passed, sent: bool) -> Flow
     let used = passed.at;
     let at = flow.at + used;
     let over = is_over(sent, mode, flow.filled - at, flow.ended);
+    let other = passed.other;
     Flow {
         session,
+        other,
         position: flow.position + used as u64,
         at,
         filled: flow.filled,

@@ -5,7 +5,7 @@ use lib.Dec.{eqb}
 use Rattle.kit.specs.Choice.{when}
 use Rattle.kit.specs.Answer.{numberOf}
 use Rattle.kit.specs.declared.answer.Answer.{Answer}
-use Rattle.kit.specs.declared.answer.Answer.the-variants.{Done, Settings, MemorySize, Offset, Busy, ErrorSet, WindowCount, PlanRange, PlanRoom, State, Record, Sequence, MemoryEnd, Clock}
+use Rattle.kit.specs.declared.answer.Answer.the-variants.{Done, Settings, MemorySize, Offset, Busy, ErrorSet, WindowCount, PlanRange, PlanRoom, State, Record, Sequence, MemoryEnd, Clock, Engine}
 
 -- the answer of a number
 answerOf : ℕ → Answer
@@ -22,7 +22,8 @@ answerOf n =
     (when (eqb n 10) Record
     (when (eqb n 11) Sequence
     (when (eqb n 12) MemoryEnd
-    (when (eqb n 13) Clock Done))))))))))))
+    (when (eqb n 13) Clock
+    (when (eqb n 21) Engine Done)))))))))))))
 
 back : (a : Answer) → answerOf (numberOf a) ≡ a
 unfolding answerOf
@@ -40,6 +41,7 @@ back Record = refl
 back Sequence = refl
 back MemoryEnd = refl
 back Clock = refl
+back Engine = refl
 
 pub number-tells : {a b : Answer} → numberOf a ≡ numberOf b → a ≡ b
 number-tells {a} {b} e = sym (back a) ∙ ap answerOf e ∙ back b

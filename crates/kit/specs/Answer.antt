@@ -1,7 +1,7 @@
 -- RULES.md, "Numbered answers": the number of each answer.
 use Prim.Native.Nat.{ℕ}
 use Rattle.kit.specs.declared.answer.Answer.{Answer}
-use Rattle.kit.specs.declared.answer.Answer.the-variants.{Done, Settings, MemorySize, Offset, Busy, ErrorSet, WindowCount, PlanRange, PlanRoom, State, Record, Sequence, MemoryEnd, Clock}
+use Rattle.kit.specs.declared.answer.Answer.the-variants.{Done, Settings, MemorySize, Offset, Busy, ErrorSet, WindowCount, PlanRange, PlanRoom, State, Record, Sequence, MemoryEnd, Clock, Engine}
 
 abbrev pub numberOf : Answer → ℕ
 numberOf Done = 0
@@ -18,3 +18,4 @@ numberOf Record = 10
 numberOf Sequence = 11
 numberOf MemoryEnd = 12
 numberOf Clock = 13
+numberOf Engine = 21

@@ -17,6 +17,7 @@ pub enum Answer {
     Sequence,
     MemoryEnd,
     Clock,
+    Engine,
 }
 
 // The answer's number in RULES.md.
@@ -38,5 +39,6 @@ pub fn number(answer: Answer) -> u32
         Answer::Sequence => 11,
         Answer::MemoryEnd => 12,
         Answer::Clock => 13,
+        Answer::Engine => 21,
     }
 }

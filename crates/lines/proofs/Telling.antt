@@ -58,8 +58,8 @@ goes-on phase left taken accepted e =
     record { some = above left (p .0); fewer = leb-false mostSteps taken (q .0); judged = was-true accepted (r .0) }
 
 pub record Telling (s₀ : Session) (at : ℕ) (m₀ w out₀ : List ℕ) (put₀ : ℕ) (accepted : Bool) (e : Engine) (left taken : ℕ) (m out : List ℕ) (put : ℕ) : Type 0 where
-  pub turning : (base : ℕ) (input : List ℕ) (ended : Bool) → at ≤ length input
-      → Passing (length out₀ - put₀) base input ended s₀ at (lend m₀ w) out₀ put₀ (stepping s₀ e left taken) at (lend m w) out put
+  pub turning : (base : ℕ) (input : List ℕ) (ended : Bool) → at ≤ length input → (o : Engine)
+      → Passing (length out₀ - put₀) base input ended s₀ at (lend m₀ w o) out₀ put₀ (stepping s₀ e left taken) at (lend m w o) out put
   pub start : put₀ ≤ put
   pub same : length out ≡ length out₀
   pub memory : length m ≡ length m₀
@@ -69,9 +69,9 @@ pub record Telling (s₀ : Session) (at : ℕ) (m₀ w out₀ : List ℕ) (put�
 pub telling-begin : (s : Session) (at : ℕ) (m w out : List ℕ) (put : ℕ) (accepted : Bool) (left taken : ℕ) → s .mode ≡ modes.Steps left taken → put + lineRoom ≤ length out
     → accepted ≡ acceptedOf (s .engine) (s .windows) (length m) → Bytes m → Telling s at m w out put accepted (s .engine) left taken m out put
 telling-begin s at m w out put accepted left taken mode free judged bytes = record {
-  turning = λ base input ended within.
-      subst (λ (x : Mode). Passing (length out - put) base input ended s at (lend m w) out put (withMode s x) at (lend m w) out put) mode
-      (passing-begin (length out - put) base input ended s at (lend m w) out put (omega arith) within);
+  turning = λ base input ended within o.
+      subst (λ (x : Mode). Passing (length out - put) base input ended s at (lend m w o) out put (withMode s x) at (lend m w o) out put) mode
+      (passing-begin (length out - put) base input ended s at (lend m w o) out put (omega arith) within);
   start = omega arith;
   same = refl;
   memory = refl;
@@ -88,11 +88,11 @@ module _ {s₀ : Session} {at : ℕ} {m₀ w out₀ : List ℕ} {put₀ : ℕ} {
   -- the line that stops it is the last
   pub telling-stop : stopsOf (e .phase) left taken accepted ≡ true → {l : Line} {out′ : List ℕ} {put′ : ℕ} → l ≡ stopLineOf (s₀ .sequence) taken (e .phase) → Puts out out′ put put′ (lineOf l)
       → put + lineRoom ≤ length out₀ → put′ ≤ put + lineRoom
-      → TakesSteps s₀ at (lend m₀ w) out₀ put₀ (record { session = record { engine = e; monitor = s₀ .monitor; sequence = s₀ .sequence; windows = s₀ .windows; mode = modes.Records }; at = at; put = put′ }) (lend m w) out′
-  telling-stop stop {l} {out′} {put′} is puts free short base input ended within =
+      → TakesSteps s₀ at m₀ w out₀ put₀ (record { session = record { engine = e; monitor = s₀ .monitor; sequence = s₀ .sequence; windows = s₀ .windows; chosen = s₀ .chosen; mode = modes.Records }; at = at; put = put′ }) m out′
+  telling-stop stop {l} {out′} {put′} is puts free short base input ended within o =
       takes-by
-      (passing-turn (t .turning base input ended within) (lineOf (stopLineOf (s₀ .sequence) taken (e .phase)))
-      (stop-turn s₀ e left taken (lend m w) base input at (sym test ∙ stop)) refl free
+      (passing-turn (t .turning base input ended within o) (lineOf (stopLineOf (s₀ .sequence) taken (e .phase)))
+      (stop-turn s₀ e left taken (lend m w o) base input at (sym test ∙ stop)) refl free
       (subst (λ (x : Line). Puts out out′ put put′ (lineOf x)) is puts) (omega arith) within (record { memory = refl; windows = refl }))
       (omega (arith, t .start, puts .past, line-some l))
 
@@ -117,9 +117,9 @@ module _ {s₀ : Session} {at : ℕ} {m₀ w out₀ : List ℕ} {put₀ : ℕ} {
         let windows = windowsOf (take (usedOf (s₀ .windows)) w) in
         let long : length m′ ≡ length m = ap (λ (x : AfterAdvance). length (x .memory)) ens ∙ advance-keeps e m windows .length in
         record {
-          turning = λ base input ended within.
-              passing-turn (t .turning base input ended within) (lineOf (eventLineOf (s₀ .sequence) (a .event)))
-              (step-turn s₀ e left taken (lend m w) base input at (sym test ∙ go) ens) refl free
+          turning = λ base input ended within o.
+              passing-turn (t .turning base input ended within o) (lineOf (eventLineOf (s₀ .sequence) (a .event)))
+              (step-turn s₀ e left taken (lend m w o) base input at (sym test ∙ go) ens) refl free
               (subst (λ (x : Line). Puts out out′ put put′ (lineOf x)) is puts) (omega arith) within (record { memory = long; windows = refl });
           start = omega (arith, t .start, puts .past);
           same = puts-length puts ∙ t .same;
@@ -139,5 +139,5 @@ module _ {s₀ : Session} {at : ℕ} {m₀ w out₀ : List ℕ} {put₀ : ℕ} {
 
   -- the buffer is full
   pub telling-full : put₀ < put
-      → TakesSteps s₀ at (lend m₀ w) out₀ put₀ (record { session = stepping s₀ e left taken; at = at; put = put }) (lend m w) out
-  telling-full some base input ended within = takes-by (t .turning base input ended within) some
+      → TakesSteps s₀ at m₀ w out₀ put₀ (record { session = stepping s₀ e left taken; at = at; put = put }) m out
+  telling-full some base input ended within o = takes-by (t .turning base input ended within o) some

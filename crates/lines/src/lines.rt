@@ -18,7 +18,6 @@ ghost use Prim.Native.Nat.{_+_, _≤_};
 ghost use lib.ListN.{length};
 ghost use Rattle.digits.specs.Tables.{Tables};
 ghost use Rattle.session.specs.declared.Mode.the-variants.{Steps};
-ghost use Rattle.session.specs.Effect.{lend};
 ghost use Rattle.session.specs.Pass.{TakesSteps};
 
 // Puts lines from `put` on while there is room, up to the one that stops the ST; `at` is the next record's place.
@@ -38,7 +37,7 @@ pub fn lines(
     requires { ⌜ 32 ≤ length (now windows) ⌝ }
     requires { ⌜ Tables (now leading) (now padded) ⌝ }
     requires { ⌜ put + 64 ≤ length (now out) ⌝ }
-    ensures { λ r. ⌜ TakesSteps session at (lend (now (memory .entry)) (now (windows .entry))) (now (out .entry)) put r (lend (now (memory .exit)) (now (windows .entry))) (now (out .exit)) ⌝ }
+    ensures { λ r. ⌜ TakesSteps session at (now (memory .entry)) (now (windows .entry)) (now (out .entry)) put r (now (memory .exit)) (now (out .exit)) ⌝ }
 {
     let last = out.len() - LINE_ROOM;
     let end = used(session.windows);

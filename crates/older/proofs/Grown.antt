@@ -1,31 +1,32 @@
--- A trace that does not start with CF, d bytes further on: the same turns, and the same lines but for the position on a `bad`.
+-- A trace that starts with neither CF nor C2, d bytes further on: the same turns, and the same lines but for the position on a `bad`.
 use mathlib.Core.Path.{_≡_, refl, sym, ap, ap₂, _∙_}
 use mathlib.Core.Logic.{⊎-elim}
-use Prim.Native.Nat.{ℕ, zero, suc, _+_, _≤_}
+use Prim.Native.Nat.{ℕ, zero, suc, _+_, _≤_, _<_}
 use mathlib.Core.Bool.{Bool, true, false}
 use mathlib.Core.List.{List, [], _∷_, _++_, map, map-append}
 use native.Mathlib.Omega.{arith}
 use lib.Dec.{eqb, leb, ltb}
 use lib.ListN.{length, getD, take, drop}
-use borrow.Author.Tests.{le-leb, leb-true, ne-eqb}
-use Rattle.kit.specs.Choice.{when}
+use borrow.Author.Tests.{leb-false, ne-eqb}
+use Rattle.kit.specs.Choice.{when, both}
 use Rattle.kit.specs.Limits.{mostWindows}
 use Rattle.kit.specs.Settings.{legalSettings}
 use Rattle.kit.specs.Word.{halfAt}
 use Rattle.kit.specs.declared.answer.Answer.the-variants as answers
 use Rattle.kit.specs.Answer.{numberOf}
-use Rattle.kit.proofs.Choice.{no, cases, decide, never, both-join}
+use Rattle.kit.proofs.Choice.{yes, no, cases, decide}
 use Rattle.listing.specs.declared.line.Line.{Line}
 use Rattle.listing.specs.declared.word.Word.the-variants as words
 use Rattle.monitor.specs.Monitor.{busClockOf}
 use Rattle.reads.specs.Read.{readOf}
 use Rattle.record.specs.declared.reading.Body.{Body}
-use Rattle.record.specs.declared.reading.Body.the-variants.{Settings, Memory, Window, Write, Read, Steps, Clock}
+use Rattle.record.specs.declared.reading.Body.the-variants.{Settings, Memory, Window, Write, Read, Steps, Astray, Clock}
 use Rattle.record.specs.declared.reading.Reading.{Reading}
 use Rattle.record.specs.declared.reading.Reading.the-variants.{Found, Refused}
-use Rattle.record.specs.Mark.{Kind, CF, letters, kindOf}
-use Rattle.record.specs.Reading.{foundOf, bodyOf, readingAs, readingOf}
-use Rattle.record.specs.Starts.{settingsAt}
+use Rattle.record.specs.Mark.{Kind, CF, C2, MM, SW, WR, RD, ST, AR, unknown, letters, kindOf, ofTrace}
+use Rattle.record.specs.Reading.{sizeOf, readingAs, readingOf}
+use Rattle.record.proofs.Readings.{short}
+use Rattle.record.specs.Starts.{settingsMark, settingsAt}
 use Rattle.steps.specs.Report.{reportOf}
 use Rattle.steps.specs.Step.{advanceOf}
 use Rattle.memory.specs.Windows.{windowsOf}
@@ -36,8 +37,9 @@ use Rattle.session.specs.declared.Effect.{Effect}
 use Rattle.session.specs.Effect.{Lent, After, after, underWay, badOf}
 use Rattle.session.specs.Stepping.{usedOf, eventWords, stopsOf, acceptedOf, stepLineOf}
 use Rattle.session.specs.Turn.{Turn, turnAs, applyOf, staleOf, recordBy, recordTurnOf}
-use Rattle.session.specs.Pass.{readyIn, Replay, turnBy, turnOn}
-use Rattle.older.specs.Lines.{openingLines, recordLines, turnLines, cleared, linesFrom}
+use Rattle.session.specs.Chosen.{twoOf, calledOf}
+use Rattle.session.specs.Pass.{readyIn, Replay, swapped, nextOn, turnBy, turnOn}
+use Rattle.older.specs.Lines.{openingLines, recordLines, nextLines, turnLines, cleared, linesFrom}
 use Rattle.older.specs.Older.{isBad, grown}
 use Rattle.older.proofs.Lines.{lines-turn, lines-stop}
 
@@ -77,7 +79,7 @@ module _ (s : Session) (d p : ℕ) (input : List ℕ) (at : ℕ) (lent : Lent) w
 
   apply-grown : (n : ℕ) (b : Body) → applyOf s n (d + p) input at lent b ≡ grownAfter d (applyOf s n p input at lent b)
   unfolding applyOf
-  apply-grown n (Settings width beats) = ap (λ (e : Effect). after e lent) (good-grown (legalSettings width beats) (numberOf answers.Settings) _ refl)
+  apply-grown n (Settings two width beats) = ap (λ (e : Effect). after e lent) (good-grown (legalSettings width beats) (numberOf answers.Settings) _ refl)
   apply-grown n (Memory address count) = after-grown (ltb (length (lent .memory)) (address + count)) (numberOf answers.MemoryEnd) _ refl
   apply-grown n (Window start count) = after-grown (leb mostWindows (s .windows)) (numberOf answers.WindowCount) _ refl
   apply-grown n (Write offset value) = refl
@@ -85,6 +87,7 @@ module _ (s : Session) (d p : ℕ) (input : List ℕ) (at : ℕ) (lent : Lent) w
       let a = applyOf s n p input at lent (Read offset) in
       ap (λ (e : Effect). after e lent) (plain-effect d (a .effect) (cases (λ (l : Line). isBad (l .word) ≡ false) (eqb (readOf (s .engine) offset .answer) 0) (λ _. refl) (λ _. refl)))
   apply-grown n (Steps count) = refl
+  apply-grown n Astray = refl
   apply-grown n (Clock bits clock) =
       let c = busClockOf (s .monitor) (s .engine .settings .width) (s .engine .settings .beats) clock in
       ap (λ (e : Effect). after e lent) (refused-grown (ltb 7 bits) (numberOf answers.Clock) _ (good-grown (eqb (c .number) 0) (c .number) _ refl))
@@ -120,42 +123,51 @@ step-good s left taken lent =
 -- ---- turns
 
 module _ (t : List ℕ) (plain : settingsAt t 0 ≡ false) where
+  -- a mark of settings is all there is, so no record is whole
+  short-settings : settingsMark (halfAt t 0) ≡ true → (k : Kind) → readingAs t 0 true k ≡ readingAs t 0 false k
+  short-settings e k = sym (short t 0 true k few) ∙ short t 0 false k few
+    where
+      few : length t < 0 + sizeOf t 0 k
+      few = omega (arith, leb-false (0 + 2) (length t) (sym (ap (both (leb (0 + 2) (length t))) e ∙ yes-itself (leb (0 + 2) (length t))) ∙ plain))
+        where
+          yes-itself : (v : Bool) → both v true ≡ v
+          yes-itself true = refl
+          yes-itself false = refl
+
   -- whether its first record is taken as the first does not matter
-  first-same : readingOf t 0 true ≡ readingOf t 0 false
+  first-same : (two : Bool) → readingOf t 0 true two ≡ readingOf t 0 false two
   unfolding readingOf kindOf
-  first-same =
-      cases Same (eqb (halfAt t 0) (letters 67 70)) settings
-      (λ _. cases Same (eqb (halfAt t 0) (letters 77 77)) (λ _. refl)
-      (λ _. cases Same (eqb (halfAt t 0) (letters 83 87)) (λ _. refl)
-      (λ _. cases Same (eqb (halfAt t 0) (letters 87 82)) (λ _. refl)
-      (λ _. cases Same (eqb (halfAt t 0) (letters 82 68)) (λ _. refl)
-      (λ _. cases Same (eqb (halfAt t 0) (letters 83 84)) (λ _. refl)
-      (λ _. cases Same (eqb (halfAt t 0) (letters 65 82)) (λ _. refl) (λ _. refl)))))))
+  first-same two =
+      cases Same (eqb (halfAt t 0) (letters 67 70)) (λ e. short-settings (sym (yes _ e refl)) (ofTrace two CF))
+      (λ n. cases Same (eqb (halfAt t 0) (letters 67 50)) (λ e. short-settings (sym (no true n (sym e))) (ofTrace two C2))
+      (λ _. cases Same (eqb (halfAt t 0) (letters 77 77)) (λ _. by MM two refl refl)
+      (λ _. cases Same (eqb (halfAt t 0) (letters 83 87)) (λ _. by SW two refl refl)
+      (λ _. cases Same (eqb (halfAt t 0) (letters 87 82)) (λ _. by WR two refl refl)
+      (λ _. cases Same (eqb (halfAt t 0) (letters 82 68)) (λ _. by RD two refl refl)
+      (λ _. cases Same (eqb (halfAt t 0) (letters 83 84)) (λ _. by ST two refl refl)
+      (λ _. cases Same (eqb (halfAt t 0) (letters 65 82)) (λ _. by AR two refl refl) (λ _. by unknown two refl refl))))))))
     where
       Same : Kind → Type 0
-      Same k = readingAs t 0 true k ≡ readingAs t 0 false k
+      Same k = readingAs t 0 true (ofTrace two k) ≡ readingAs t 0 false (ofTrace two k)
 
-      settings : eqb (halfAt t 0) (letters 67 70) ≡ true → Same CF
-      settings e = go (leb (0 + 10) (length t)) refl
-        where
-          go : (v : Bool) → leb (0 + 10) (length t) ≡ v → when v (foundOf t 0 10 (bodyOf t 0 CF)) Refused ≡ Refused
-          go true f = absurd (never (sym plain ∙ both-join (le-leb (0 + 2) (length t) (omega (arith, leb-true (0 + 10) (length t) f))) e))
-          go false f = refl
+      by : (k : Kind) (b : Bool) → readingAs t 0 true (ofTrace true k) ≡ readingAs t 0 false (ofTrace true k) → readingAs t 0 true k ≡ readingAs t 0 false k
+          → readingAs t 0 true (ofTrace b k) ≡ readingAs t 0 false (ofTrace b k)
+      by k true p q = p
+      by k false p q = q
 
-  read-same : (d at : ℕ) → 1 ≤ d → readingOf t at (eqb (d + at) 0) ≡ readingOf t at (eqb (0 + at) 0)
-  read-same d zero h = ap (readingOf t 0) (ne-eqb (d + 0) 0 (λ e. omega (arith, e))) ∙ sym first-same
-  read-same d (suc n) h =
-      ap (readingOf t (suc n)) (ne-eqb (d + suc n) 0 (λ e. omega (arith, e)) ∙ sym (ne-eqb (0 + suc n) 0 (λ e. omega (arith, e))))
+  read-same : (d at : ℕ) (two : Bool) → 1 ≤ d → readingOf t at (eqb (d + at) 0) two ≡ readingOf t at (eqb (0 + at) 0) two
+  read-same d zero two h = ap (λ (v : Bool). readingOf t 0 v two) (ne-eqb (d + 0) 0 (λ e. omega (arith, e))) ∙ sym (first-same two)
+  read-same d (suc n) two h =
+      ap (λ (v : Bool). readingOf t (suc n) v two) (ne-eqb (d + suc n) 0 (λ e. omega (arith, e)) ∙ sym (ne-eqb (0 + suc n) 0 (λ e. omega (arith, e))))
 
   module _ (d : ℕ) (some : 1 ≤ d) where
     turn-grown : (s : Session) (at : ℕ) (lent : Lent) → recordTurnOf s (d + at) t at lent ≡ grownTurn d (recordTurnOf s (0 + at) t at lent)
     turn-grown s at lent =
         let place : d + at ≡ d + (0 + at) = omega arith in
-        ap₂ (λ (p : ℕ) (v : Reading). recordBy s p t at lent v) place (read-same d at some) ∙ record-grown s d (0 + at) t at lent (readingOf t at (eqb (0 + at) 0))
+        ap₂ (λ (p : ℕ) (v : Reading). recordBy s p t at lent v) place (read-same d at (twoOf (s .chosen)) some) ∙ record-grown s d (0 + at) t at lent (readingOf t at (eqb (0 + at) 0) (twoOf (s .chosen)))
 
-    lines-grown-turn : (r : Replay) (mode : Mode) → turnLines d t r mode ≡ map (grown d) (turnLines 0 t r mode)
-    lines-grown-turn r modes.Start = cases (λ (ls : List Line). ls ≡ map (grown d) ls) (settingsAt t (r .at)) (λ _. refl) (λ _. refl)
-    lines-grown-turn r modes.Records =
+    lines-grown-next : (r : Replay) → nextLines d t r ≡ map (grown d) (nextLines 0 t r)
+    lines-grown-next r =
         ap (λ (x : Turn). recordLines (x .effect)) (turn-grown (r .session) (r .at) (r .lent)) ∙ told (recordTurnOf (r .session) (0 + r .at) t (r .at) (r .lent) .effect)
       where
         told : (e : Effect) → recordLines (grownEffect d e) ≡ map (grown d) (recordLines e)
@@ -164,6 +176,10 @@ module _ (t : List ℕ) (plain : settingsAt t 0 ≡ false) where
             go : (v : Bool) → when v [] (grown d (e .line) ∷ []) ≡ map (grown d) (when v [] (e .line ∷ []))
             go true = refl
             go false = refl
+
+    lines-grown-turn : (r : Replay) (mode : Mode) → turnLines d t r mode ≡ map (grown d) (turnLines 0 t r mode)
+    lines-grown-turn r modes.Start = cases (λ (ls : List Line). ls ≡ map (grown d) ls) (settingsAt t (r .at)) (λ _. refl) (λ _. refl)
+    lines-grown-turn r modes.Records = cases (λ (x : Replay). nextLines d t x ≡ map (grown d) (nextLines 0 t x)) (calledOf (r .session .chosen) t (r .at)) (λ _. lines-grown-next (swapped r)) (λ _. lines-grown-next r)
     lines-grown-turn r (modes.Steps left taken) =
         ap (λ (l : Line). l ∷ []) (plain-line d (stepLineOf (r .session) left taken (r .lent) .effect .line) (step-good (r .session) left taken (r .lent)))
     lines-grown-turn r modes.Over = refl
@@ -174,7 +190,11 @@ module _ (t : List ℕ) (plain : settingsAt t 0 ≡ false) where
       where
         go : (mode : Mode) → cleared (turnBy d t r mode) ≡ cleared (turnBy 0 t r mode)
         go modes.Start = refl
-        go modes.Records = ap (λ (x : Turn). cleared (record { session = x .effect .session; at = x .at; lent = x .lent; text = [] })) (turn-grown (r .session) (r .at) (r .lent))
+        go modes.Records =
+            cases (λ (x : Replay). cleared (nextOn d t x) ≡ cleared (nextOn 0 t x)) (calledOf (r .session .chosen) t (r .at)) (λ _. next (swapped r)) (λ _. next r)
+          where
+            next : (x : Replay) → cleared (nextOn d t x) ≡ cleared (nextOn 0 t x)
+            next x = ap (λ (y : Turn). cleared (record { session = y .effect .session; at = y .at; lent = y .lent; text = [] })) (turn-grown (x .session) (x .at) (x .lent))
         go (modes.Steps left taken) = refl
         go modes.Over = refl
 

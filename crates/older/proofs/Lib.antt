@@ -1,4 +1,5 @@
 pub mod Lines
 pub mod Grown
 pub mod Claims
+pub mod Former
 pub mod Cases

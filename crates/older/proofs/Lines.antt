@@ -1,5 +1,5 @@
 -- Laws of the lines: they are the listing's text, a part's are the whole's, and as many turns as the measure says are enough.
-use mathlib.Core.Path.{_≡_, refl, sym, ap, ap₂, _∙_}
+use mathlib.Core.Path.{_≡_, refl, sym, ap, ap₂, subst, _∙_}
 use mathlib.Core.Logic.{⊎-elim}
 use Prim.Native.Nat.{ℕ, zero, suc, _+_, _-_, _≤_, _<_}
 use mathlib.Core.Bool.{Bool, true, false}
@@ -14,15 +14,16 @@ use Rattle.record.specs.Starts.{settingsAt}
 use Rattle.session.specs.declared.Mode.{Mode}
 use Rattle.session.specs.declared.Mode.the-variants as modes
 use Rattle.session.specs.declared.Session.{Session}
+use Rattle.session.specs.Chosen.{calledOf}
 use Rattle.session.specs.Effect.{Lent, underWay, textOf, openingOf}
 use Rattle.session.specs.Stepping.{stepLineOf}
 use Rattle.session.specs.Turn.{Turn, recordTurnOf}
-use Rattle.session.specs.Pass.{readyOf, readyIn, Replay, turnBy, turnOn, turnsOf}
+use Rattle.session.specs.Pass.{readyOf, readyIn, Replay, swapped, nextOn, turnBy, turnOn, turnsOf}
 use Rattle.whole.specs.Listing.{listFrom}
 use Rattle.whole.proofs.Listing.{list-turn, list-stop}
 use Rattle.whole.proofs.Measure.{measureOf, turn-less}
-use Rattle.whole.proofs.Parts.{seenIn, starts-part, reading-turn, on-part, turns-within}
-use Rattle.older.specs.Lines.{textsOf, openingLines, recordLines, turnLines, cleared, linesFrom}
+use Rattle.whole.proofs.Parts.{seenIn, starts-part, called-part, reading-turn, on-part, turns-within}
+use Rattle.older.specs.Lines.{textsOf, openingLines, recordLines, nextLines, turnLines, cleared, linesFrom}
 
 -- ---- turn by turn
 
@@ -60,9 +61,16 @@ turn-text base input r = go (r .session .mode)
 
     go : (mode : Mode) → turnBy base input r mode .text ≡ r .text ++ textsOf (turnLines base input r mode)
     go modes.Start = ap (λ (x : List ℕ). r .text ++ x) (opened (settingsAt input (r .at)))
-    go modes.Records =
-        let t = recordTurnOf (r .session) (base + r .at) input (r .at) (r .lent) in
-        ap (λ (x : List ℕ). r .text ++ x) (recorded (underWay (t .effect .session .mode)) (t .effect .line))
+    go modes.Records = by (calledOf (r .session .chosen) input (r .at))
+      where
+        next : (x : Replay) → nextOn base input x .text ≡ x .text ++ textsOf (nextLines base input x)
+        next x =
+            let t = recordTurnOf (x .session) (base + x .at) input (x .at) (x .lent) in
+            ap (λ (l : List ℕ). x .text ++ l) (recorded (underWay (t .effect .session .mode)) (t .effect .line))
+
+        by : (called : Bool) → nextOn base input (when called (swapped r) r) .text ≡ r .text ++ textsOf (nextLines base input (when called (swapped r) r))
+        by true = next (swapped r)
+        by false = next r
     go (modes.Steps left taken) = ap (λ (x : List ℕ). r .text ++ x) (one-text (stepLineOf (r .session) left taken (r .lent) .effect .line))
     go modes.Over = sym (append-nil (r .text))
 
@@ -72,13 +80,21 @@ turn-cleared base input r = go (r .session .mode)
   where
     go : (mode : Mode) → cleared (turnBy base input (cleared r) mode) ≡ cleared (turnBy base input r mode)
     go modes.Start = refl
-    go modes.Records = refl
+    go modes.Records = by (calledOf (r .session .chosen) input (r .at))
+      where
+        by : (called : Bool) → cleared (nextOn base input (when called (swapped (cleared r)) (cleared r))) ≡ cleared (nextOn base input (when called (swapped r) r))
+        by true = refl
+        by false = refl
     go (modes.Steps left taken) = refl
     go modes.Over = refl
 
 lines-cleared : (base : ℕ) (input : List ℕ) (r : Replay) (mode : Mode) → turnLines base input (cleared r) mode ≡ turnLines base input r mode
 lines-cleared base input r modes.Start = refl
-lines-cleared base input r modes.Records = refl
+lines-cleared base input r modes.Records = by (calledOf (r .session .chosen) input (r .at))
+  where
+    by : (called : Bool) → nextLines base input (when called (swapped (cleared r)) (cleared r)) ≡ nextLines base input (when called (swapped r) r)
+    by true = refl
+    by false = refl
 lines-cleared base input r (modes.Steps left taken) = refl
 lines-cleared base input r modes.Over = refl
 
@@ -138,15 +154,25 @@ module _ (before t : List ℕ) where
       → turnLines 0 whole (seenIn (length before) [] r) (r .session .mode) ≡ turnLines (length before) t r (r .session .mode)
   lines-part r h ready = go (r .session .mode) ready
     where
-      place : 0 + (length before + r .at) ≡ length before + r .at
-      place = omega arith
-
       go : (mode : Mode) → readyOf mode (length t - r .at) true ≡ true
           → turnLines 0 whole (seenIn (length before) [] r) mode ≡ turnLines (length before) t r mode
       go modes.Start e = ap (openingLines (r .session)) (starts-part before t [] (r .at) true (λ _. refl) h e)
       go modes.Records e =
-          ap (λ (n : ℕ). recordLines (recordTurnOf (r .session) n whole (length before + r .at) (r .lent) .effect)) place
-          ∙ ap (λ (x : Turn). recordLines (x .effect)) (reading-turn before t [] (r .session) (length before + r .at) (r .lent) (r .at) true (λ _. refl) h e)
+          ap (λ (called : Bool). nextLines 0 whole (when called (swapped (seenIn (length before) [] r)) (seenIn (length before) [] r)))
+          (called-part before t [] (r .session .chosen) (r .at) true (λ _. refl) h e)
+          ∙ by (calledOf (r .session .chosen) t (r .at))
+        where
+          next : (x : Replay) → x .at ≡ r .at → nextLines 0 whole (seenIn (length before) [] x) ≡ nextLines (length before) t x
+          next x same =
+              let place : 0 + (length before + x .at) ≡ length before + x .at = omega arith in
+              ap (λ (n : ℕ). recordLines (recordTurnOf (x .session) n whole (length before + x .at) (x .lent) .effect)) place
+              ∙ ap (λ (y : Turn). recordLines (y .effect))
+              (reading-turn before t [] (x .session) (length before + x .at) (x .lent) (x .at) true (λ _. refl) (omega (arith, h, same))
+              (subst (λ (n : ℕ). readyOf modes.Records (length t - n) true ≡ true) (sym same) e))
+
+          by : (called : Bool) → nextLines 0 whole (when called (swapped (seenIn (length before) [] r)) (seenIn (length before) [] r)) ≡ nextLines (length before) t (when called (swapped r) r)
+          by true = next (swapped r) refl
+          by false = next r refl
       go (modes.Steps left taken) e = refl
       go modes.Over e = absurd (never e)
 

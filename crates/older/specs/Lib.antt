@@ -1,3 +1,4 @@
 pub mod Lines
 pub mod Older
+pub mod Former
 pub mod Cases

@@ -14,7 +14,7 @@ use Rattle.session.specs.declared.Effect.{Effect}
 use Rattle.session.specs.Effect.{settingsLineOf, underWay}
 use Rattle.session.specs.Stepping.{stepLineOf}
 use Rattle.session.specs.Turn.{recordTurnOf}
-use Rattle.session.specs.Pass.{Replay, replayAs, readyIn, turnOn}
+use Rattle.session.specs.Pass.{Replay, replayAs, handed, readyIn, turnOn}
 use Rattle.whole.specs.Listing.{mostTurns, atStart}
 
 -- lines as text
@@ -22,17 +22,21 @@ abbrev pub textsOf : List Line → List ℕ
 textsOf [] = []
 textsOf (l ∷ more) = lineOf l ++ textsOf more
 
--- the line of what comes before the first record, none if a CF stands there; and of a record, but of an ST none
+-- the line of what comes before the first record, none if a CF or C2 stands there; and of a record, but of an ST none
 abbrev pub openingLines : Session → Bool → List Line
 openingLines s settings = when settings [] (settingsLineOf (s .sequence) (s .engine .settings .width) (s .engine .settings .beats) ∷ [])
 
 abbrev pub recordLines : Effect → List Line
 recordLines e = when (underWay (e .session .mode)) [] (e .line ∷ [])
 
+-- the lines of the next record
+abbrev pub nextLines : ℕ → List ℕ → Replay → List Line
+nextLines base input r = recordLines (recordTurnOf (r .session) (base + r .at) input (r .at) (r .lent) .effect)
+
 -- the lines of one turn
 abbrev pub turnLines : ℕ → List ℕ → Replay → Mode → List Line
 turnLines base input r Start = openingLines (r .session) (settingsAt input (r .at))
-turnLines base input r Records = recordLines (recordTurnOf (r .session) (base + r .at) input (r .at) (r .lent) .effect)
+turnLines base input r Records = nextLines base input (handed input r)
 turnLines base input r (Steps left taken) = stepLineOf (r .session) left taken (r .lent) .effect .line ∷ []
 turnLines base input r Over = []
 

@@ -14,16 +14,16 @@ use Rattle.listing.specs.declared.line.Line.{Line}
 use Rattle.listing.specs.declared.word.Word.{Word}
 use Rattle.listing.specs.declared.word.Word.the-variants as words
 use Rattle.listing.specs.Line.{headerOf}
-use Rattle.record.specs.Starts.{settingsAt, convertedOf}
+use Rattle.record.specs.Starts.{settingsAt, startsOne, startsTwo, convertedOf}
 use Rattle.session.specs.declared.Mode.the-variants.{Records}
-use Rattle.session.specs.Effect.{startWith, withMode, settingsLineOf, badLineOf}
+use Rattle.session.specs.Effect.{startWith, startOf, withMode, settingsLineOf, badLineOf}
 use Rattle.session.specs.Pass.{Replay, begin}
 use Rattle.whole.specs.Listing.{startMemory, startWindows, mostTurns, listingOf}
 use Rattle.older.specs.Lines.{textsOf, linesFrom, linesOf}
 
 -- the replay of a trace whose settings without CF are W=4 and these beats, and are not told
 abbrev pub silent : ℕ → Replay
-silent beats = begin (withMode (startWith beats) Records) startMemory startWindows
+silent beats = begin (withMode (startWith beats) Records) startMemory startWindows (startOf .engine)
 
 -- the lines of its records
 abbrev pub recordsOf : ℕ → List ℕ → List Line
@@ -31,11 +31,13 @@ recordsOf beats input = linesFrom (mostTurns * length input) 0 input (silent bea
 
 -- a whole CF that carries 0, which was out of sequence
 abbrev pub carriesZero : List ℕ → Bool
-carriesZero t = both (settingsAt t 0) (both (leb 10 (length t)) (eqb (wordAt t 2) 0))
+carriesZero t = both (startsOne t) (both (leb 10 (length t)) (eqb (wordAt t 2) 0))
 
--- the older listing: today's records, but without CF L=16, and no line says so; CF could not carry 0
+-- the older listing: today's records, but without CF L=16, and no line says so; CF could not carry 0, and C2 was no mark
 abbrev pub olderLinesOf : List ℕ → List Line
-olderLinesOf t = when (carriesZero t) (badLineOf 0 (numberOf answers.Sequence) 0 ∷ []) (recordsOf 16 t)
+olderLinesOf t =
+    when (startsTwo t) (badLineOf 0 (numberOf answers.Record) 0 ∷ [])
+    (when (carriesZero t) (badLineOf 0 (numberOf answers.Sequence) 0 ∷ []) (recordsOf 16 t))
 
 abbrev pub olderListingOf : List ℕ → List ℕ
 olderListingOf t = headerOf ++ textsOf (olderLinesOf t)
@@ -64,10 +66,10 @@ grown d l = when (isBad (l .word)) (record { sequence = l .sequence; word = l .w
 pub record Older : Type 0 where
   -- a listing is its lines
   pub lines : (t : List ℕ) → listingOf t ≡ headerOf ++ textsOf (linesOf t)
-  -- a trace that is not empty and does not start with CF: `0 set 4 64`, and then its records with W=4, L=64
+  -- a trace that is not empty and starts with neither CF nor C2: `0 set 4 64`, and then its records with W=4, L=64
   pub defaulted : (t : List ℕ) → 0 < length t → settingsAt t 0 ≡ false → linesOf t ≡ settingsLineOf 0 4 64 ∷ recordsOf 64 t
-  -- an older trace without CF, converted: `0 set 4 16`, and then its older lines, where the position on a `bad` line is 10 more
+  -- an older trace without CF or C2, converted: `0 set 4 16`, and then its older lines, where the position on a `bad` line is 10 more
   pub converted : (t : List ℕ) → settingsAt t 0 ≡ false
       → listingOf (convertedOf t) ≡ headerOf ++ textsOf (settingsLineOf 0 4 16 ∷ map (grown 10) (olderLinesOf t))
   -- an older trace with CF is copied, and lists as before, unless its CF carries 0
-  pub copied : (t : List ℕ) → settingsAt t 0 ≡ true → carriesZero t ≡ false → listingOf (convertedOf t) ≡ olderListingOf t
+  pub copied : (t : List ℕ) → startsOne t ≡ true → carriesZero t ≡ false → listingOf (convertedOf t) ≡ olderListingOf t

@@ -1,5 +1,5 @@
 -- What follows by `followsOf` is a record that reading finds.
-use mathlib.Core.Path.{_≡_, refl, sym, ap}
+use mathlib.Core.Path.{_≡_, refl, sym, ap, _∙_}
 use mathlib.Core.Bool.{Bool, true, false}
 use mathlib.Core.List.{List}
 use Prim.Native.Nat.{ℕ, _+_, _≤_, _<_}
@@ -10,8 +10,9 @@ use Rattle.kit.specs.Choice.{both}
 use Rattle.kit.specs.Word.{wordAt, halfAt}
 use Rattle.kit.proofs.Choice.{yes, no, both-left, both-right}
 use Rattle.record.specs.Mark.{WR, AR, kindOf, letters}
-use Rattle.record.specs.Reading.{bodyOf, foundOf, readingOf}
+use Rattle.record.specs.Reading.{bodyOf, foundOf, kindAt, readingOf}
 use Rattle.record.specs.Follows.{followsOf}
+use Rattle.record.proofs.Marks.{kind-by, in-both}
 use Rattle.record.proofs.Readings.{found, of-kind}
 
 module _ (s : List ℕ) (at mark size before : ℕ) where
@@ -37,15 +38,20 @@ module _ (s : List ℕ) (at mark size before : ℕ) where
     pub marked : halfAt s at ≡ mark
     marked = eqb-true (halfAt s at) mark (both-left (eqb (halfAt s at) mark) _ rest)
 
--- the record that follows an AR and a WR
-pub clock-follows : (s : List ℕ) (at before : ℕ) (first : Bool) → followsOf s at (letters 65 82) 22 before ≡ true
-    → readingOf s at first ≡ foundOf s at 22 (bodyOf s at AR)
+-- an AR record is one in a trace of two engines too
+pub clock-kind : (s : List ℕ) (at : ℕ) (two : Bool) → halfAt s at ≡ letters 65 82 → kindAt s at two ≡ AR
 unfolding kindOf
-clock-follows s at before first f =
-    sym (of-kind s at first (ap kindOf (marked s at (letters 65 82) 22 before f)) (found s at first AR refl (whole s at (letters 65 82) 22 before f) refl))
+clock-kind s at two e = kind-by two e ∙ in-both AR refl two
+
+-- the record that follows an AR, and in a trace of one engine a WR
+pub clock-follows : (s : List ℕ) (at before : ℕ) (first two : Bool) → followsOf s at (letters 65 82) 22 before ≡ true
+    → readingOf s at first two ≡ foundOf s at 22 (bodyOf s at AR)
+unfolding kindOf
+clock-follows s at before first two f =
+    sym (of-kind s at first two (clock-kind s at two (marked s at (letters 65 82) 22 before f)) (found s at first AR refl (whole s at (letters 65 82) 22 before f) refl))
 
 pub write-follows : (s : List ℕ) (at before : ℕ) (first : Bool) → followsOf s at (letters 87 82) 12 before ≡ true
-    → readingOf s at first ≡ foundOf s at 12 (bodyOf s at WR)
+    → readingOf s at first false ≡ foundOf s at 12 (bodyOf s at WR)
 unfolding kindOf
 write-follows s at before first f =
-    sym (of-kind s at first (ap kindOf (marked s at (letters 87 82) 12 before f)) (found s at first WR refl (whole s at (letters 87 82) 12 before f) refl))
+    sym (of-kind s at first false (ap kindOf (marked s at (letters 87 82) 12 before f)) (found s at first WR refl (whole s at (letters 87 82) 12 before f) refl))

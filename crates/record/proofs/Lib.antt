@@ -5,4 +5,5 @@ pub mod Whole
 pub mod Local
 pub mod Claims
 pub mod Starting
+pub mod Naming
 pub mod Cases

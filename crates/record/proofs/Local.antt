@@ -13,8 +13,8 @@ use Rattle.record.specs.declared.reading.Body.{Body}
 use Rattle.record.specs.declared.reading.Body.the-variants.{Settings, Memory, Window, Write, Read, Steps}
 use Rattle.record.specs.declared.reading.Reading.{Reading}
 use Rattle.record.specs.declared.reading.Reading.the-variants.{Found, Refused}
-use Rattle.record.specs.Mark.{Kind, CF, MM, SW, WR, RD, ST, AR, unknown, kindOf, bodyLength, headerLength, dataAllowed}
-use Rattle.record.specs.Reading.{clockAt, bodyOf, dataLength, sizeOf, allowed, readingAs, kindAt}
+use Rattle.record.specs.Mark.{Kind, CF, C2, MM, SW, WR, RD, ST, AR, WR2, RD2, ST2, unknown, kindOf, ofTrace, bodyLength, headerLength, dataAllowed}
+use Rattle.record.specs.Reading.{clockAt, forEngine, bodyOf, dataLength, sizeOf, allowed, readingAs, kindAt}
 use Rattle.record.specs.Claims.{shifted}
 
 pub leb-same : (a b c d : ℕ) → (a ≤ b → c ≤ d) → (c ≤ d → a ≤ b) → leb a b ≡ leb c d
@@ -57,27 +57,35 @@ module _ (s t : List ℕ) (p q m : ℕ) (agree : (i : ℕ) → i < m → getD s 
       let e3 = byte-same (p + i + 3) (q + i + 3) (i + 3) (omega arith) (omega arith) (omega arith) in
       λ j. joined (e0 j) (e1 j) (e2 j) (e3 j)
 
-  pub kind-same : 2 ≤ m → kindAt s p ≡ kindAt t q
-  kind-same h = ap kindOf (half-same p q 0 (omega arith) (omega arith) h)
+  pub kind-same : (two : Bool) → 2 ≤ m → kindAt s p two ≡ kindAt t q two
+  kind-same two h = ap (λ (n : ℕ). ofTrace two (kindOf n)) (half-same p q 0 (omega arith) (omega arith) h)
 
   pub data-same : (k : Kind) → headerLength + bodyLength k ≤ m → dataLength s p k ≡ dataLength t q k
   data-same CF h = refl
+  data-same C2 h = refl
   data-same MM h = half-field 10 h
   data-same SW h = refl
   data-same WR h = refl
   data-same RD h = refl
   data-same ST h = refl
   data-same AR h = refl
+  data-same WR2 h = refl
+  data-same RD2 h = refl
+  data-same ST2 h = refl
   data-same unknown h = refl
 
   allowed-same : (first : Bool) (k : Kind) → headerLength + bodyLength k ≤ m → allowed s p first k ≡ allowed t q first k
   allowed-same first CF h = refl
+  allowed-same first C2 h = refl
   allowed-same first MM h = ap dataAllowed (half-field 10 h)
   allowed-same first SW h = refl
   allowed-same first WR h = refl
   allowed-same first RD h = refl
   allowed-same first ST h = refl
   allowed-same first AR h = refl
+  allowed-same first WR2 h = refl
+  allowed-same first RD2 h = refl
+  allowed-same first ST2 h = refl
   allowed-same first unknown h = refl
 
   clock-same : 22 ≤ m → (bits : ℕ) → clockAt s p bits ≡ clockAt t q bits
@@ -107,7 +115,8 @@ module _ (s t : List ℕ) (p q m : ℕ) (agree : (i : ℕ) → i < m → getD s 
       }
 
   body-same : (k : Kind) → headerLength + bodyLength k ≤ m → bodyOf s p k ≡ bodyOf t q k
-  body-same CF h = ap₂ Settings (half-field 6 (omega arith)) (half-field 8 (omega arith))
+  body-same CF h = ap₂ (Settings false) (half-field 6 (omega arith)) (half-field 8 (omega arith))
+  body-same C2 h = ap₂ (Settings true) (half-field 6 (omega arith)) (half-field 8 (omega arith))
   body-same MM h = ap₂ Memory (word-field 6 (omega arith)) (half-field 10 (omega arith))
   body-same SW h = ap₂ Window (word-field 6 (omega arith)) (word-field 10 (omega arith))
   body-same WR h = ap₂ Write (half-field 6 (omega arith)) (word-field 8 (omega arith))
@@ -116,6 +125,9 @@ module _ (s t : List ℕ) (p q m : ℕ) (agree : (i : ℕ) → i < m → getD s 
   body-same AR h =
       let bits = agree 6 (omega arith) in
       (λ j. Body.Clock (bits j) (clockAt s p (bits j))) ∙ ap (λ c. Body.Clock (getD t (q + 6) 0) c) (clock-same h (getD t (q + 6) 0))
+  body-same WR2 h = ap₂ forEngine (agree 6 (omega arith)) (ap₂ Write (half-field 7 (omega arith)) (word-field 9 (omega arith)))
+  body-same RD2 h = ap₂ forEngine (agree 6 (omega arith)) (ap Read (half-field 7 (omega arith)))
+  body-same ST2 h = ap₂ forEngine (agree 6 (omega arith)) (ap Steps (half-field 7 (omega arith)))
   body-same unknown h = refl
 
   -- the same reading, d places on, where an allowed record is whole in both or in neither

@@ -4,7 +4,7 @@ use mathlib.Core.Bool.{Bool, true, false}
 use mathlib.Core.List.{List, _++_}
 use Prim.Native.Nat.{ℕ, _+_, _≤_, _<_}
 use native.Mathlib.Omega.{arith}
-use lib.Dec.{eqb, leb}
+use lib.Dec.{leb}
 use lib.ListN.{length, getD, drop, length-append, length-drop, List·getD-append}
 use lib.Seq.{getD-drop}
 use borrow.Author.Tests.{le-leb, lt-leb}
@@ -12,9 +12,9 @@ use Rattle.kit.specs.Choice.{when, both}
 use Rattle.kit.specs.Word.{halfAt}
 use Rattle.kit.proofs.Choice.{yes, no, decide, both-join}
 use mathlib.Core.Logic.{⊎-elim}
-use Rattle.record.specs.Mark.{letters, kindOf}
+use Rattle.record.specs.Mark.{kindOf}
 use Rattle.record.specs.Reading.{readingOf}
-use Rattle.record.specs.Starts.{settingsAt, olderSettings, convertedOf, Starts}
+use Rattle.record.specs.Starts.{settingsMark, settingsAt, olderSettings, convertedOf, Starts}
 use Rattle.record.proofs.Local.{leb-same, half-same}
 use Rattle.record.proofs.Claims.{claims}
 
@@ -22,12 +22,12 @@ module _ (s : List ℕ) (at : ℕ) where
   pub past-end : length s < at + 2 → false ≡ settingsAt s at
   past-end h = no _ (lt-leb (at + 2) (length s) h) refl
 
-  pub by-mark : at + 2 ≤ length s → {m : ℕ} → m ≡ halfAt s at → eqb m (letters 67 70) ≡ settingsAt s at
-  by-mark h e = yes _ (le-leb (at + 2) (length s) h) (ap (λ (n : ℕ). eqb n (letters 67 70)) e)
+  pub by-mark : at + 2 ≤ length s → {m : ℕ} → m ≡ halfAt s at → settingsMark m ≡ settingsAt s at
+  by-mark h e = yes _ (le-leb (at + 2) (length s) h) (ap settingsMark e)
 
 -- the same two bytes at p in s and at q in t, in both or in neither
 same-start : (s t : List ℕ) (p q : ℕ) → ((i : ℕ) → i < 2 → getD s (p + i) 0 ≡ getD t (q + i) 0) → leb (p + 2) (length s) ≡ leb (q + 2) (length t) → settingsAt s p ≡ settingsAt t q
-same-start s t p q agree fits = ap₂ both fits (ap (λ (n : ℕ). eqb n (letters 67 70)) (half-same s t p q 2 agree p q 0 (omega arith) (omega arith) (omega arith)))
+same-start s t p q agree fits = ap₂ both fits (ap settingsMark (half-same s t p q 2 agree p q 0 (omega arith) (omega arith) (omega arith)))
 
 put-starts : (t : List ℕ) → settingsAt (olderSettings ++ t) 0 ≡ true
 put-starts t = both-join (le-leb (0 + 2) (length (olderSettings ++ t)) (omega (arith, length-append olderSettings t))) refl
@@ -49,7 +49,7 @@ starts = record {
   settled = λ s more at room.
       same-start (s ++ more) s at at (λ i l. List·getD-append s more 0 (at + i) (omega arith))
       (leb-same (at + 2) (length (s ++ more)) (at + 2) (length s) (λ l. room) (λ l. omega (arith, length-append s more)));
-  put = λ t. claims .appended olderSettings t 0 true _ 10 refl;
+  put = λ t. claims .appended olderSettings t 0 true false _ 10 refl;
   starts = converted-starts;
   twice = λ t. sym (yes _ (converted-starts t) refl);
 }

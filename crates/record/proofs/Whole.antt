@@ -13,12 +13,12 @@ use Rattle.record.specs.declared.reading.Record.{Record}
 use Rattle.record.specs.declared.reading.Reading.the-variants.{Found, Refused}
 use Rattle.record.specs.Reading.{bodyOf, sizeOf, allowed, foundOf, kindAt, readingOf}
 
-pub record Whole (s : List ℕ) (at : ℕ) (first : Bool) (r : Record) (n : ℕ) : Type 0 where
-  pub allows : allowed s at first (kindAt s at) ≡ true
-  pub fits : at + sizeOf s at (kindAt s at) ≤ length s
+pub record Whole (s : List ℕ) (at : ℕ) (first two : Bool) (r : Record) (n : ℕ) : Type 0 where
+  pub allows : allowed s at first (kindAt s at two) ≡ true
+  pub fits : at + sizeOf s at (kindAt s at two) ≤ length s
   pub sequence-is : r .sequence ≡ wordAt s (at + 2)
-  pub body-is : r .body ≡ bodyOf s at (kindAt s at)
-  pub next-is : n ≡ at + sizeOf s at (kindAt s at)
+  pub body-is : r .body ≡ bodyOf s at (kindAt s at two)
+  pub next-is : n ≡ at + sizeOf s at (kindAt s at two)
 
 pub impossible : _≡_ {A = ℕ} 0 1 → ⊥
 impossible e = omega arith
@@ -32,12 +32,12 @@ same-next e = cc
 not-refused : {r : Record} {n : ℕ} → Refused ≡ Found r n → ⊥
 not-refused e = impossible (cc)
 
-pub whole : (s : List ℕ) (at : ℕ) (first : Bool) (r : Record) (n : ℕ) → readingOf s at first ≡ Found r n → Whole s at first r n
+pub whole : (s : List ℕ) (at : ℕ) (first two : Bool) (r : Record) (n : ℕ) → readingOf s at first two ≡ Found r n → Whole s at first two r n
 unfolding readingOf
-whole s at first r n = go (allowed s at first (kindAt s at)) refl (leb (at + sizeOf s at (kindAt s at)) (length s)) refl
+whole s at first two r n = go (allowed s at first (kindAt s at two)) refl (leb (at + sizeOf s at (kindAt s at two)) (length s)) refl
   where
-    go : (t : Bool) → allowed s at first (kindAt s at) ≡ t → (u : Bool) → leb (at + sizeOf s at (kindAt s at)) (length s) ≡ u
-        → when t (when u (foundOf s at (sizeOf s at (kindAt s at)) (bodyOf s at (kindAt s at))) Refused) Refused ≡ Found r n → Whole s at first r n
+    go : (t : Bool) → allowed s at first (kindAt s at two) ≡ t → (u : Bool) → leb (at + sizeOf s at (kindAt s at two)) (length s) ≡ u
+        → when t (when u (foundOf s at (sizeOf s at (kindAt s at two)) (bodyOf s at (kindAt s at two))) Refused) Refused ≡ Found r n → Whole s at first two r n
     go true p true q e = record {
       allows = p;
       fits = leb-true _ _ q;

@@ -6,7 +6,7 @@ use Prim.Native.Nat.{ℕ, _+_, _^_, _≤_, _<_}
 use lib.ListN.{length, getD, drop}
 use Rattle.monitor.specs.declared.clock.Clock.{Clock}
 use Rattle.record.specs.declared.reading.Body.{Body}
-use Rattle.record.specs.declared.reading.Body.the-variants.{Settings, Memory, Window, Write, Read, Steps}
+use Rattle.record.specs.declared.reading.Body.the-variants.{Settings, Memory, Window, Write, Read, Steps, Astray}
 use Rattle.record.specs.declared.reading.Record.{Record}
 use Rattle.record.specs.declared.reading.Reading.{Reading}
 use Rattle.record.specs.declared.reading.Reading.the-variants.{Found, Refused}
@@ -36,12 +36,13 @@ pub record ClockWithin (bits : ℕ) (c : Clock) : Type 0 where
 
 -- the ranges of a body's fields: u8, u16 and u32
 abbrev pub Within : Body → Type 0
-Within (Settings width beats) = (width < 65536) × (beats < 65536)
+Within (Settings two width beats) = (width < 65536) × (beats < 65536)
 Within (Memory address length) = (address < 2 ^ 32) × (length < 65536)
 Within (Window start length) = (start < 2 ^ 32) × (length < 2 ^ 32)
 Within (Write offset value) = (offset < 65536) × (value < 2 ^ 32)
 Within (Read offset) = offset < 65536
 Within (Steps count) = count < 65536
+Within Astray = Unit {0}
 Within (Body.Clock bits clock) = ClockWithin bits clock
 
 -- the same record, its next place reckoned from a place d bytes before
@@ -51,22 +52,22 @@ shifted d Refused = Refused
 
 pub record Claims : Type 0 where
   -- a record found has a byte at least, lies inside, and is no longer than the longest
-  pub inside : (s : List ℕ) (at : ℕ) (first : Bool) (r : Record) (n : ℕ) → readingOf s at first ≡ Found r n
+  pub inside : (s : List ℕ) (at : ℕ) (first two : Bool) (r : Record) (n : ℕ) → readingOf s at first two ≡ Found r n
       → (at < n) × (n ≤ length s) × (n ≤ at + longest)
   -- an MM record has 1..1024 bytes of data, from at + 12 up to the next place
-  pub memory : (s : List ℕ) (at : ℕ) (first : Bool) (r : Record) (n address size : ℕ) → readingOf s at first ≡ Found r n
+  pub memory : (s : List ℕ) (at : ℕ) (first two : Bool) (r : Record) (n address size : ℕ) → readingOf s at first two ≡ Found r n
       → r .body ≡ Memory address size → (at + 12 + size ≡ n) × (1 ≤ size) × (size ≤ mostData)
   -- the fields are u8, u16 and u32
-  pub ranges : (s : List ℕ) (at : ℕ) (first : Bool) (r : Record) (n : ℕ) → Bytes s → readingOf s at first ≡ Found r n
+  pub ranges : (s : List ℕ) (at : ℕ) (first two : Bool) (r : Record) (n : ℕ) → Bytes s → readingOf s at first two ≡ Found r n
       → (r .sequence < 2 ^ 32) × Within (r .body)
   -- bytes after a record found do not change it
-  pub appended : (s more : List ℕ) (at : ℕ) (first : Bool) (r : Record) (n : ℕ) → readingOf s at first ≡ Found r n
-      → readingOf (s ++ more) at first ≡ Found r n
+  pub appended : (s more : List ℕ) (at : ℕ) (first two : Bool) (r : Record) (n : ℕ) → readingOf s at first two ≡ Found r n
+      → readingOf (s ++ more) at first two ≡ Found r n
   -- where the longest record has room, bytes after it change nothing, a refusal neither
-  pub settled : (s more : List ℕ) (at : ℕ) (first : Bool) → at + longest ≤ length s
-      → readingOf (s ++ more) at first ≡ readingOf s at first
+  pub settled : (s more : List ℕ) (at : ℕ) (first two : Bool) → at + longest ≤ length s
+      → readingOf (s ++ more) at first two ≡ readingOf s at first two
   -- the bytes before a record do not matter
-  pub dropped : (s : List ℕ) (at : ℕ) (first : Bool) → at ≤ length s
-      → readingOf s at first ≡ shifted at (readingOf (drop at s) 0 first)
+  pub dropped : (s : List ℕ) (at : ℕ) (first two : Bool) → at ≤ length s
+      → readingOf s at first two ≡ shifted at (readingOf (drop at s) 0 first two)
   -- two results that the contract of `read` allows are equal
-  pub unique : (s : List ℕ) (at : ℕ) (first : Bool) (r t : Reading) → r ≡ readingOf s at first → t ≡ readingOf s at first → r ≡ t
+  pub unique : (s : List ℕ) (at : ℕ) (first two : Bool) (r t : Reading) → r ≡ readingOf s at first two → t ≡ readingOf s at first two → r ≡ t

@@ -3,18 +3,18 @@ ghost use mathlib.Core.Path.{_≡_};
 ghost use mathlib.Core.Bool.{true};
 ghost use Prim.Native.Nat.{_+_, _≤_};
 ghost use lib.ListN.{length};
-ghost use Rattle.record.specs.Mark.{CF, SW, WR, RD, ST};
-ghost use Rattle.record.specs.Reading.{readingAs};
+ghost use Rattle.record.specs.Mark.{SW, WR, RD, ST};
+ghost use Rattle.record.specs.Reading.{settingsKind, readingAs};
 use crate::found::found;
 use crate::reading::Body;
 use crate::reading::Reading;
 use crate::size;
 use kit::word;
 
-// CF, which may only come first.
-pub fn settings(input: &[u8], at: usize, first: bool) -> Reading
+// CF, or C2 for two engines: they may only come first.
+pub fn settings(input: &[u8], at: usize, first: bool, two: bool) -> Reading
     requires { ⌜ at + 6 ≤ length (now input) ⌝ }
-    ensures { λ r. ⌜ r ≡ readingAs (now (input .entry)) at first CF ⌝ }
+    ensures { λ r. ⌜ r ≡ readingAs (now (input .entry)) at first (settingsKind two) ⌝ }
 {
     if !first {
         return Reading::Refused;
@@ -24,7 +24,7 @@ pub fn settings(input: &[u8], at: usize, first: bool) -> Reading
     }
     let width = word::load_half(input, at + 6) as u32;
     let beats = word::load_half(input, at + 8) as u32;
-    found(input, at, size::CF, Body::Settings { width, beats })
+    found(input, at, size::CF, Body::Settings { two, width, beats })
 }
 
 pub fn window(input: &[u8], at: usize) -> Reading

@@ -1,6 +1,8 @@
 // RULES.md, "Trace and listing": the two letters of each mark, the first in the lower byte.
 pub const CF: u16 = 0x4643;
 
+pub const C2: u16 = 0x3243;
+
 pub const MM: u16 = 0x4D4D;
 
 pub const SW: u16 = 0x5753;

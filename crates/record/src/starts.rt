@@ -4,7 +4,7 @@ ghost use Rattle.record.specs.Starts.{settingsAt};
 use crate::mark;
 use kit::word;
 
-// Whether the two letters of CF stand at `at`, whatever comes after them.
+// Whether the two letters of CF or C2 stand at `at`, whatever comes after them.
 pub fn settings_at(input: &[u8], at: usize) -> bool
     ensures { λ r. ⌜ r ≡ settingsAt (now (input .entry)) at ⌝ }
 {
@@ -14,5 +14,9 @@ pub fn settings_at(input: &[u8], at: usize) -> bool
     if input.len() - at < 2 {
         return false;
     }
-    word::load_half(input, at) == mark::CF
+    let letters = word::load_half(input, at);
+    if letters == mark::CF {
+        return true;
+    }
+    letters == mark::C2
 }

@@ -10,19 +10,21 @@ use session::Mode;
 use session::Passed;
 use session::Session;
 use session::bad::bad_line;
+use session::chosen::is_two;
 use session::under_way;
 use watch::clocks;
 use writes::writes;
 ghost use mathlib.Core.Path.{_≡_};
-ghost use mathlib.Core.Bool.{true};
+ghost use mathlib.Core.Bool.{true, false};
 ghost use Prim.Native.Nat.{_+_, _-_, _≤_, _<_, _^_};
 ghost use lib.ListN.{length};
 ghost use Rattle.digits.specs.Tables.{Tables};
 ghost use Rattle.session.specs.declared.Mode.the-variants.{Records};
 ghost use Rattle.kit.specs.Answer.{numberOf};
-ghost use Rattle.session.specs.Effect.{lend, badOf};
+ghost use Rattle.session.specs.Chosen.{calledOf};
+ghost use Rattle.session.specs.Effect.{badOf};
 ghost use Rattle.session.specs.Turn.{staleOf};
-ghost use Rattle.session.specs.Pass.{readyOf, Takes};
+ghost use Rattle.session.specs.Pass.{readyOf, TakesBeside};
 ghost use Rattle.records.specs.Tells.{Tells};
 
 // Puts a record's line; an ST has none of its own.
@@ -72,7 +74,7 @@ fn refuse(
     Passed { session, at, put }
 }
 
-// Whether a sequence number is not above the last one. CF comes first, and may carry 0.
+// Whether a sequence number is not above the last one. CF and C2 come first, and may carry 0.
 fn stale(before: u32, sequence: u32, body: Body) -> bool
     ensures { λ r. ⌜ r ≡ staleOf before sequence body ⌝ }
 {
@@ -80,12 +82,16 @@ fn stale(before: u32, sequence: u32, body: Body) -> bool
         return false;
     }
     match body {
-        Body::Settings { width: _, beats: _ } => false,
+        Body::Settings {
+            two: _,
+            width: _,
+            beats: _,
+        } => false,
         _ => true,
     }
 }
 
-// A record that is no record, or out of sequence, is the last line. `base` is the place of the input in the whole trace.
+// A record that is no record, or out of sequence, is the last line; so is one for an engine that is not there. `base` is the place of the input in the whole trace.
 pub fn records(
     session: Session,
     base: u64,
@@ -99,15 +105,17 @@ pub fn records(
     out: &mut [u8],
     put: usize,
 ) -> Passed
-    requires { ⌜ (session .mode ≡ Records) × (readyOf Records (length (now input) - at) ended ≡ true) ⌝ }
+    requires { ⌜ (session .mode ≡ Records) × (readyOf Records (length (now input) - at) ended ≡ true) × (calledOf (session .chosen) (now input) at ≡ false) ⌝ }
     requires { ⌜ (at ≤ length (now input)) × (base + length (now input) < 2 ^ 64) ⌝ }
     requires { ⌜ 32 ≤ length (now windows) ⌝ }
     requires { ⌜ Tables (now leading) (now padded) ⌝ }
     requires { ⌜ put + 64 ≤ length (now out) ⌝ }
-    ensures { λ r. ⌜ Takes base (now (input .entry)) ended session at (lend (now (memory .entry)) (now (windows .entry))) (now (out .entry)) put r (lend (now (memory .exit)) (now (windows .exit))) (now (out .exit)) ⌝ }
+    ensures { λ r. ⌜ TakesBeside base (now (input .entry)) ended session at (now (memory .entry)) (now (windows .entry)) (now (out .entry)) put r (now (memory .exit)) (now (windows .exit)) (now (out .exit)) ⌝ }
 {
     let position = base + at as u64;
-    let reading = read(input, at, position == 0);
+    let chosen = session.chosen;
+    let two = is_two(chosen);
+    let reading = read(input, at, position == 0, two);
     let Reading::Found { record, next } = reading else {
         return refuse(
             session,
@@ -135,9 +143,10 @@ pub fn records(
         );
     }
     let effect = match body {
-        Body::Settings { width, beats } => effect::settings(
+        Body::Settings { two, width, beats } => effect::settings(
             session,
             sequence,
+            two,
             width,
             beats,
             position,
@@ -179,6 +188,7 @@ pub fn records(
         }
         Body::Read { offset } => effect::register_read(session, sequence, offset),
         Body::Steps { count } => effect::steps(session, sequence, count),
+        Body::Astray => effect::bad(session, Answer::Engine, position),
         Body::Clock { bits, clock } => {
             return clocks(
                 session,

@@ -15,6 +15,7 @@ use Rattle.kit.proofs.Choice.{never}
 use Rattle.session.specs.declared.Mode.{Mode}
 use Rattle.session.specs.declared.Mode.the-variants.{Start, Records, Steps, Over}
 use Rattle.session.specs.declared.Session.{Session}
+use Rattle.state.specs.declared.engine.Engine.{Engine}
 use Rattle.session.specs.Pass.{readyOf}
 use Rattle.listing.specs.Line.{headerOf}
 use Rattle.whole.specs.Listing.{startMemory, startWindows, Replays, begun, passed, listingOf}
@@ -33,30 +34,32 @@ opened-reached sent b = record { used = []; text = headerOf; place = refl; repla
 
 -- more bytes pending: the replay is of each trace that starts with them too
 more-reached : {f : Flow} {b m w : List ℕ} (r : Flow) (b′ more : List ℕ) → Reached f b m w → f .ended ≡ false
-    → r .session ≡ f .session → r .position ≡ f .position → pending r b′ ≡ pending f b ++ more → Reached r b′ m w
-more-reached {f} {b} {m} {w} r b′ more h going session place e =
+    → r .session ≡ f .session → r .other ≡ f .other → r .position ≡ f .position → pending r b′ ≡ pending f b ++ more → Reached r b′ m w
+more-reached {f} {b} {m} {w} r b′ more h going session other place e =
     record {
       used = h .used;
       text = h .text;
       place = h .place ∙ sym place;
-      replays = λ rest last. subst (λ (s : Session). Replays (h .used ++ (pending r b′ ++ rest)) (r .position) s m w (h .text)) (sym session)
-          (subst (λ (n : ℕ). Replays (h .used ++ (pending r b′ ++ rest)) n (f .session) m w (h .text)) (sym place)
-          (subst (λ (l : List ℕ). Replays (h .used ++ l) (f .position) (f .session) m w (h .text))
+      replays = λ rest last. subst (λ (s : Session). Replays (h .used ++ (pending r b′ ++ rest)) (r .position) s (r .other) m w (h .text)) (sym session)
+          (subst (λ (o : Engine). Replays (h .used ++ (pending r b′ ++ rest)) (r .position) (f .session) o m w (h .text)) (sym other)
+          (subst (λ (n : ℕ). Replays (h .used ++ (pending r b′ ++ rest)) n (f .session) (f .other) m w (h .text)) (sym place)
+          (subst (λ (l : List ℕ). Replays (h .used ++ l) (f .position) (f .session) (f .other) m w (h .text))
           (sym (append-assoc (pending f b) more rest) ∙ ap (λ (l : List ℕ). l ++ rest) (sym e))
-          (h .replays (more ++ rest) (λ k. absurd (never (sym going ∙ k))))));
+          (h .replays (more ++ rest) (λ k. absurd (never (sym going ∙ k)))))));
     }
 
 -- the same bytes pending
 same-reached : {f : Flow} {b m w : List ℕ} (r : Flow) (b′ : List ℕ) → Reached f b m w
-    → r .session ≡ f .session → r .position ≡ f .position → r .ended ≡ f .ended → pending r b′ ≡ pending f b → Reached r b′ m w
-same-reached {f} {b} {m} {w} r b′ h session place ended e =
+    → r .session ≡ f .session → r .other ≡ f .other → r .position ≡ f .position → r .ended ≡ f .ended → pending r b′ ≡ pending f b → Reached r b′ m w
+same-reached {f} {b} {m} {w} r b′ h session other place ended e =
     record {
       used = h .used;
       text = h .text;
       place = h .place ∙ sym place;
-      replays = λ rest last. subst (λ (s : Session). Replays (h .used ++ (pending r b′ ++ rest)) (r .position) s m w (h .text)) (sym session)
-          (subst (λ (n : ℕ). Replays (h .used ++ (pending r b′ ++ rest)) n (f .session) m w (h .text)) (sym place)
-          (subst (λ (l : List ℕ). Replays (h .used ++ (l ++ rest)) (f .position) (f .session) m w (h .text)) (sym e) (h .replays rest (λ k. last (ended ∙ k)))));
+      replays = λ rest last. subst (λ (s : Session). Replays (h .used ++ (pending r b′ ++ rest)) (r .position) s (r .other) m w (h .text)) (sym session)
+          (subst (λ (o : Engine). Replays (h .used ++ (pending r b′ ++ rest)) (r .position) (f .session) o m w (h .text)) (sym other)
+          (subst (λ (n : ℕ). Replays (h .used ++ (pending r b′ ++ rest)) n (f .session) (f .other) m w (h .text)) (sym place)
+          (subst (λ (l : List ℕ). Replays (h .used ++ (l ++ rest)) (f .position) (f .session) (f .other) m w (h .text)) (sym e) (h .replays rest (λ k. last (ended ∙ k))))));
     }
 
 refill-reached : {f : Flow} {b m w : List ℕ} {r : Flow} {b′ : List ℕ} → Refills f b r b′ → Reached f b m w → Reached r b′ m w
@@ -71,13 +74,13 @@ refill-reached {f} {b} {m} {w} {r} {b′} t h = subst (λ (x : Flow). Reached x 
 
     asked : (answer : ℤ) → wantsOf f ≡ true → take (leftOf f) (drop 0 b′) ≡ pending f b → Reached (afterRead f answer (t .interrupted)) b′ m w
     asked (pos n) e kept =
-        more-reached (afterRead f (pos n) (t .interrupted)) b′ (take n (drop (leftOf f) b′)) h (goes-on (f .ended) refl e) refl refl
+        more-reached (afterRead f (pos n) (t .interrupted)) b′ (take n (drop (leftOf f) b′)) h (goes-on (f .ended) refl e) refl refl refl
         (ap (λ (k : ℕ). take k b′) (whole (leftOf f + n)) ∙ take-add (leftOf f) n b′ ∙ ap (λ (l : List ℕ). l ++ take n (drop (leftOf f) b′)) kept)
-    asked (negsuc n) e kept = same-reached (afterRead f (negsuc n) (t .interrupted)) b′ h refl refl refl (ap (λ (k : ℕ). take k b′) (whole (leftOf f)) ∙ kept)
+    asked (negsuc n) e kept = same-reached (afterRead f (negsuc n) (t .interrupted)) b′ h refl refl refl refl (ap (λ (k : ℕ). take k b′) (whole (leftOf f)) ∙ kept)
 
     go : (v : Bool) → wantsOf f ≡ v → r ≡ when v (afterRead f (t .answer) (t .interrupted)) f → Reached (when v (afterRead f (t .answer) (t .interrupted)) f) b′ m w
     go true e i = asked (t .answer) e (ap (λ (k : ℕ). take (leftOf f) (drop k b′)) (sym (ap (λ (x : Flow). x .at) i ∙ read-front f (t .answer) (t .interrupted))) ∙ t .kept)
-    go false e i = same-reached f b′ h refl refl refl (ap (λ (k : ℕ). take (leftOf f) (drop k b′)) (sym (ap (λ (x : Flow). x .at) i)) ∙ t .kept)
+    go false e i = same-reached f b′ h refl refl refl refl (ap (λ (k : ℕ). take (leftOf f) (drop k b′)) (sym (ap (λ (x : Flow). x .at) i)) ∙ t .kept)
 
 forward-reached : {f : Flow} {b m w out : List ℕ} {r : Flow} {m′ w′ out′ : List ℕ} → Fits f b → Forwards f b m w out r m′ w′ out′
     → Reached f b m w → Reached r b m′ w′
@@ -97,7 +100,7 @@ forward-reached {f} {b} {m} {w} {out} {r} {m′} {w′} {out′} fits t h =
       place = length-append (h .used) front
           ∙ omega (arith, h .place, length-take-le (p .at) (drop (f .at) b) (omega (arith, inside, fits .begins, fits .within, fits .size, length-drop (f .at) b)));
       replays = λ rest last.
-          subst (λ (l : List ℕ). Replays l (f .position + p .at) (p .session) m′ w′ (h .text ++ take (p .put) out′))
+          subst (λ (l : List ℕ). Replays l (f .position + p .at) (p .session) (p .other) m′ w′ (h .text ++ take (p .put) out′))
           (ap (λ (l : List ℕ). h .used ++ (l ++ rest)) split ∙ ap (λ (l : List ℕ). h .used ++ l) (append-assoc front (pending next b) rest)
           ∙ sym (append-assoc (h .used) front (pending next b ++ rest)))
           (passed (h .replays rest last) (pending f b) rest (f .ended) (drop-at (h .used) (pending f b ++ rest) (f .position) (h .place)) last out p m′ w′ out′ (t .passes));
@@ -116,7 +119,7 @@ flow-reached {f} {b} {m} {w} {out} {r} {b′} {m′} {w′} fits t h = go (t .mi
 
 pub complete : Complete
 complete f b m w fits h done rest last =
-    listing .whole (h .used ++ (pending f b ++ rest)) (f .position) (f .session) m w (h .text) (h .replays rest last)
+    listing .whole (h .used ++ (pending f b ++ rest)) (f .position) (f .session) (f .other) m w (h .text) (h .replays rest last)
     (go (f .session .mode) (f .ended) refl done)
   where
     size : f .ended ≡ true → length (h .used ++ (pending f b ++ rest)) - f .position ≡ leftOf f

@@ -8,7 +8,7 @@ use mathlib.Core.List.{List}
 use lib.ListN.{length, take}
 use lib.IntN.{ℤ, pos, negsuc}
 use Rattle.listing.specs.Line.{headerOf}
-use Rattle.session.specs.declared.Passed.{Passed}
+use Rattle.session.specs.declared.AfterPass.{AfterPass}
 use Rattle.session.specs.Pass.{Passes}
 use Rattle.flow.specs.declared.flow.Flow.{Flow}
 use Rattle.flow.specs.Flow.{room, leftOf, pending, Fits, openedOf, afterPass}
@@ -23,9 +23,9 @@ pub record Begins (r : Flow) (out′ : List ℕ) : Type 0 where
 
 -- one pass over the pending bytes, at their place in the trace; what it put is sent
 pub record Forwards (f : Flow) (b m w out : List ℕ) (r : Flow) (m′ w′ out′ : List ℕ) : Type 0 where
-  pub passed : Passed
+  pub passed : AfterPass
   pub sent : Bool
-  pub passes : Passes (f .session) (f .position) (pending f b) (f .ended) m w out passed m′ w′ out′
+  pub passes : Passes (f .session) (f .other) (f .position) (pending f b) (f .ended) m w out passed m′ w′ out′
   pub is : r ≡ afterPass f passed sent
 
 -- one turn: a refill, and a pass unless the read failed

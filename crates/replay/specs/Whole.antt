@@ -14,7 +14,7 @@ pub record Reached (f : Flow) (b m w : List ℕ) : Type 0 where
   pub used : List ℕ
   pub text : List ℕ
   pub place : length used ≡ f .position
-  pub replays : (rest : List ℕ) → (f .ended ≡ true → rest ≡ []) → Replays (used ++ (pending f b ++ rest)) (f .position) (f .session) m w text
+  pub replays : (rest : List ℕ) → (f .ended ≡ true → rest ≡ []) → Replays (used ++ (pending f b ++ rest)) (f .position) (f .session) (f .other) m w text
 
 -- a replay that is finished has handed over the trace's listing, whole
 abbrev pub Complete : Type 0

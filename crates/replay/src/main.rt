@@ -118,8 +118,10 @@ fn forward(
     let filled = flow.filled;
     let session = flow.session;
     let part = &buffer[at..filled];
+    let other = flow.other;
     let passed = pass(
         session,
+        other,
         flow.position,
         part,
         flow.ended,

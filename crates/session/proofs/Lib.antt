@@ -1,5 +1,6 @@
 pub mod Parts
 pub mod Following
+pub mod Handing
 pub mod Midst
 pub mod Passing
 pub mod RecordTurns

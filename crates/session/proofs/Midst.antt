@@ -16,6 +16,7 @@ use Rattle.session.specs.declared.Mode.{Mode}
 use Rattle.session.specs.declared.Mode.the-variants as modes
 use Rattle.session.specs.declared.Session.{Session}
 use Rattle.session.specs.declared.Effect.{Effect}
+use Rattle.session.specs.Chosen.{twoOf}
 use Rattle.session.specs.Effect.{Lent, After, after, textOf, underWay}
 use Rattle.session.specs.Turn.{turnAs, applyOf, recordTurnOf}
 use Rattle.session.specs.Pass.{lineRoom, InOrder, TakesOnly}
@@ -39,7 +40,7 @@ pub record Midst (base : ℕ) (input : List ℕ) (ended : Bool) (s₀ : Session)
 pub midst-begin : {base : ℕ} {input : List ℕ} {ended : Bool} {s : Session} {at sequence : ℕ} {body : Body} {next : ℕ} {out : List ℕ} {put : ℕ}
     → InOrder base input ended s at sequence body next → put + lineRoom ≤ length out → Midst base input ended s at out put s sequence body at next out put
 midst-begin {base} {input} {ended} {s} {at} {next = next} {out} {put} o free =
-    let here = inside input at (eqb (base + at) 0) _ next (o .read) in
+    let here = inside input at (eqb (base + at) 0) (twoOf (s .chosen)) _ next (o .read) in
     record {
       order = o;
       free = free;
@@ -61,7 +62,7 @@ told m {l} {k} e is {out} {out′} {put} {put′} p = subst (Puts out out′ put
 module _ {base : ℕ} {input : List ℕ} {ended : Bool} {s₀ : Session} {at₀ : ℕ} {out₀ : List ℕ} {put₀ : ℕ} {s : Session} {sequence : ℕ} {body : Body} {at next : ℕ} {out : List ℕ} {put : ℕ}
     (k : Midst base input ended s₀ at₀ out₀ put₀ s sequence body at next out put) where
   pub midst-inside : (at < next) × (next ≤ length input)
-  midst-inside = inside input at (eqb (base + at) 0) _ next (k .order .read)
+  midst-inside = inside input at (eqb (base + at) 0) (twoOf (s .chosen)) _ next (k .order .read)
 
   module _ (e : Effect) (is : (lent : Lent) → after e lent ≡ applyOf s sequence (base + at) input at lent body) (way : underWay (e .session .mode) ≡ false)
       {l : Line} (same : l ≡ e .line) {out′ : List ℕ} {put′ : ℕ} (puts : Puts out out′ put put′ (lineOf l)) (short : put′ ≤ put + lineRoom) where
@@ -70,7 +71,7 @@ module _ {base : ℕ} {input : List ℕ} {ended : Bool} {s₀ : Session} {at₀ 
 
     -- its turn is one more
     pub midst-turn : Turning base input ended s₀ at₀ out₀ put₀ (e .session) next out′ put′
-    midst-turn lent = passing-record base input s at lent e next lent (k .order .mode) (seen lent) ended (k .order .ready) (k .turning lent) (k .free) (told (e .session .mode) way same puts) short
+    midst-turn lent = passing-record base input s at lent e next lent (k .order .mode) (k .order .hand) (seen lent) ended (k .order .ready) (k .turning lent) (k .free) (told (e .session .mode) way same puts) short
 
     -- and may be the last
     pub midst-last : TakesOnly base input ended s₀ at₀ out₀ put₀ (record { session = e .session; at = next; put = put′ }) out′

@@ -11,7 +11,8 @@ use native.Mathlib.Omega.{arith}
 use lib.ListN.{length, drop, length-append}
 use lib.Seq.{sets-eq}
 use lib.Dec.{leb, ltb}
-use Rattle.kit.specs.Choice.{both}
+use Rattle.kit.specs.Choice.{when, both}
+use Rattle.state.specs.declared.engine.Engine.{Engine}
 use Rattle.kit.proofs.Choice.{decide, both-left, both-right, both-join}
 use Rattle.listing.specs.Line.{lineOf}
 use Rattle.record.specs.Starts.{settingsAt}
@@ -21,10 +22,12 @@ use Rattle.session.specs.declared.Mode.{Mode}
 use Rattle.session.specs.declared.Mode.the-variants as modes
 use Rattle.session.specs.declared.Session.{Session}
 use Rattle.session.specs.declared.Passed.{Passed}
+use Rattle.session.specs.declared.AfterPass.{AfterPass}
+use Rattle.session.specs.Chosen.{calledOf}
 use Rattle.session.specs.Effect.{Lent, lend, textOf, withMode, openingOf}
 use Rattle.session.specs.Stepping.{stepLineOf}
 use Rattle.session.specs.Turn.{recordTurnOf}
-use Rattle.session.specs.Pass.{readyOf, readyIn, Replay, replayAs, turnBy, turnOn, turnsOf, lineRoom, goesOn, Passes, Takes}
+use Rattle.session.specs.Pass.{readyOf, readyIn, Replay, replayAs, swapped, nextOn, turnBy, turnOn, turnsOf, lineRoom, goesOn, Passes, Takes}
 use Rattle.session.proofs.Turns.{both-no, SameLengths, turns-join, turns-kept}
 
 pub record Passing (room base : ℕ) (input : List ℕ) (ended : Bool) (s₀ : Session) (at₀ : ℕ) (l₀ : Lent) (out₀ : List ℕ) (put₀ : ℕ) (s : Session) (at : ℕ) (lent : Lent) (out : List ℕ) (put : ℕ) : Type 0 where
@@ -104,10 +107,10 @@ module _ {room base : ℕ} {input : List ℕ} {ended : Bool} {s₀ : Session} {a
       go (suc n) e = omega (arith, e)
 
 -- a whole buffer's turns are a pass
-pub passes-by : {base : ℕ} {input : List ℕ} {ended : Bool} {s₀ : Session} {m₀ w₀ out₀ : List ℕ} {s : Session} {at : ℕ} {m w out : List ℕ} {put : ℕ}
-    (p : Passing (length out₀) base input ended s₀ 0 (lend m₀ w₀) out₀ 0 s at (lend m w) out put)
-    → goesOn (length out₀) input ended (turnsOf (p .turns) base input (replayAs s₀ 0 (lend m₀ w₀) [])) ≡ false
-    → Passes s₀ base input ended m₀ w₀ out₀ (record { session = s; at = at; put = put }) m w out
+pub passes-by : {base : ℕ} {input : List ℕ} {ended : Bool} {s₀ : Session} {o₀ : Engine} {m₀ w₀ out₀ : List ℕ} {s : Session} {o : Engine} {at : ℕ} {m w out : List ℕ} {put : ℕ}
+    (p : Passing (length out₀) base input ended s₀ 0 (lend m₀ w₀ o₀) out₀ 0 s at (lend m w o) out put)
+    → goesOn (length out₀) input ended (turnsOf (p .turns) base input (replayAs s₀ 0 (lend m₀ w₀ o₀) [])) ≡ false
+    → Passes s₀ o₀ base input ended m₀ w₀ out₀ (record { session = s; other = o; at = at; put = put }) m w out
 passes-by {out₀ = out₀} {put = put} p stops =
     let long : put ≡ length (p .text) = omega (arith, p .puts .past) in
     let place : 0 + length (p .text) ≡ put = omega (arith, p .puts .past) in
@@ -133,15 +136,22 @@ takes-by p h = record { turns = p .turns; text = p .text; some = passing-some p 
 abbrev behind : List ℕ → Replay → Replay
 behind text x = replayAs (x .session) (x .at) (x .lent) (text ++ x .text)
 
+next-behind : (base : ℕ) (input text : List ℕ) (x : Replay) → nextOn base input (behind text x) ≡ behind text (nextOn base input x)
+next-behind base input text x =
+    let t = recordTurnOf (x .session) (base + x .at) input (x .at) (x .lent) in
+    ap (replayAs (t .effect .session) (t .at) (t .lent)) (append-assoc text (x .text) (textOf (t .effect .session .mode) (t .effect .line)))
+
 turn-behind : (base : ℕ) (input text : List ℕ) (x : Replay) → turnOn base input (behind text x) ≡ behind text (turnOn base input x)
 unfolding turnOn
 turn-behind base input text x = go (x .session .mode)
   where
     go : (mode : Mode) → turnBy base input (behind text x) mode ≡ behind text (turnBy base input x mode)
     go modes.Start = ap (replayAs (withMode (x .session) modes.Records) (x .at) (x .lent)) (append-assoc text (x .text) (openingOf (x .session) (settingsAt input (x .at))))
-    go modes.Records =
-        let t = recordTurnOf (x .session) (base + x .at) input (x .at) (x .lent) in
-        ap (replayAs (t .effect .session) (t .at) (t .lent)) (append-assoc text (x .text) (textOf (t .effect .session .mode) (t .effect .line)))
+    go modes.Records = by (calledOf (x .session .chosen) input (x .at))
+      where
+        by : (called : Bool) → nextOn base input (when called (swapped (behind text x)) (behind text x)) ≡ behind text (nextOn base input (when called (swapped x) x))
+        by true = next-behind base input text (swapped x)
+        by false = next-behind base input text x
     go (modes.Steps left taken) =
         let a = stepLineOf (x .session) left taken (x .lent) in
         ap (replayAs (a .effect .session) (x .at) (a .lent)) (append-assoc text (x .text) (lineOf (a .effect .line)))
@@ -197,3 +207,13 @@ module _ {room base : ℕ} {input : List ℕ} {ended : Bool} {s₀ : Session} {a
         within = subst (λ (x : Replay). x .at ≤ length input) (sym (q .ends)) (kept .within);
         lengths = record { memory = lengths .memory ∙ p .lengths .memory; windows = lengths .windows ∙ p .lengths .windows };
       }
+
+-- some turns more, one at least, are turns that a pass can take over
+pub takes-more : {base : ℕ} {input : List ℕ} {ended : Bool} {s₀ : Session} {at₀ : ℕ} {l₀ : Lent} {out₀ : List ℕ} {put₀ : ℕ} {s : Session} {at : ℕ} {lent : Lent} {out : List ℕ} {put : ℕ}
+    → Passing (length out₀ - put₀) base input ended s₀ at₀ l₀ out₀ put₀ s at lent out put
+    → {r : Passed} {lent′ : Lent} {out′ : List ℕ} → Takes base input ended s at lent out put r lent′ out′
+    → Takes base input ended s₀ at₀ l₀ out₀ put₀ r lent′ out′
+unfolding passing-more
+takes-more p q =
+    let more = passing-more p q in
+    record { turns = more .turns; text = more .text; some = omega (arith, q .some); goes = more .goes; ends = more .ends; puts = more .puts; fits = more .fits }

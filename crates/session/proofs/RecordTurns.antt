@@ -7,7 +7,7 @@ use native.Mathlib.Omega.{arith}
 use lib.ListN.{length, length-append}
 use lib.Dec.{eqb, leb}
 use borrow.Author.Tests.{le-leb, leb-true}
-use Rattle.kit.proofs.Choice.{never, both-left, both-right, both-join}
+use Rattle.kit.proofs.Choice.{cases, never, both-left, both-right, both-join}
 use Rattle.listing.specs.declared.line.Line.{Line}
 use Rattle.listing.specs.Line.{lineOf}
 use Rattle.digits.specs.Puts.{Puts}
@@ -22,15 +22,19 @@ use Rattle.session.specs.declared.Passed.{Passed}
 use Rattle.session.specs.Effect.{Lent, after, textOf, underWay, settingsLineOf, openingOf}
 use Rattle.session.specs.Stepping.{stepLineOf}
 use Rattle.session.specs.Turn.{Turn, turnAs, recordTurnOf}
-use Rattle.session.specs.Pass.{readyOf, readyIn, Replay, replayAs, recordOn, turnBy, turnOn, turnsOf, lineRoom, goesOn, Takes}
+use Rattle.session.specs.Pass.{readyOf, readyIn, Replay, replayAs, recordOn, swapped, nextOn, turnBy, turnOn, turnsOf, lineRoom, goesOn, Takes}
+use Rattle.session.specs.Chosen.{twoOf, calledOf}
 use Rattle.session.proofs.Turns.{Kept, record-kept}
+use Rattle.session.proofs.Handing.{handed-kept}
 use Rattle.session.proofs.Passing.{Passing, passing-turn}
 
 module _ (base : ℕ) (input : List ℕ) (s : Session) (at : ℕ) (lent : Lent) (e : Effect) (at′ : ℕ) (lent′ : Lent) (mode : s .mode ≡ modes.Records)
-    (seen : turnAs (after e lent′) at′ ≡ recordTurnOf s (base + at) input at lent) where
+    (hand : calledOf (s .chosen) input at ≡ false) (seen : turnAs (after e lent′) at′ ≡ recordTurnOf s (base + at) input at lent) where
   record-on : (text : List ℕ) → turnOn base input (replayAs s at lent text) ≡ replayAs (e .session) at′ lent′ (text ++ textOf (e .session .mode) (e .line))
   unfolding turnOn
-  record-on text = ap (turnBy base input (replayAs s at lent text)) mode ∙ ap (recordOn (replayAs s at lent text)) (sym seen)
+  record-on text =
+      let r = replayAs s at lent text in
+      ap (turnBy base input r) mode ∙ ap (nextOn base input) (handed-kept input r hand) ∙ ap (recordOn r) (sym seen)
 
   module _ (ended : Bool) (can : readyOf modes.Records (length input - at) ended ≡ true) where
     ready : readyOf (s .mode) (length input - at) ended ≡ true
@@ -60,7 +64,7 @@ module _ (base : ℕ) (input : List ℕ) (s : Session) (at : ℕ) (lent : Lent) 
     passing-record p free puts short =
         let kept : Kept input lent at′ lent′ =
         subst (λ (t : Turn). Kept input lent (t .at) (t .lent)) (sym seen)
-        (record-kept s (base + at) input at lent (p .within) (readingOf input at (eqb (base + at) 0)) refl) in
+        (record-kept s (base + at) input at lent (p .within) (readingOf input at (eqb (base + at) 0) (twoOf (s .chosen))) refl) in
         passing-turn p (textOf (e .session .mode) (e .line)) record-on ready free puts (omega arith) (kept .within) (kept .lengths)
 
 -- ---- turns come to an end: each puts a line, or is a CF's opening, whose record comes next, or an ST's, whose lines come next
@@ -95,13 +99,20 @@ module _ (room base : ℕ) (input : List ℕ) (ended : Bool) where
       told (modes.Steps left taken) l = omega (arith, length-append (x .text) [], free)
       told modes.Over l = omega (arith, length-append (x .text) (lineOf l), line-some l, free)
 
+      next : (y : Replay) → y .text ≡ x .text → weighed room (nextOn base input y) < 3 * (room - length (x .text)) + 1
+      next y same =
+          let t = recordTurnOf (y .session) (base + y .at) input (y .at) (y .lent) in
+          subst (λ (text : List ℕ). 3 * (room - length (text ++ textOf (t .effect .session .mode) (t .effect .line))) + weight (t .effect .session .mode) < 3 * (room - length (x .text)) + 1) (sym same) (told (t .effect .session .mode) (t .effect .line))
+
       opened : (settings : Bool) → 3 * (room - length (x .text ++ openingOf (x .session) settings)) + 1 < 3 * (room - length (x .text)) + 2
       opened true = omega (arith, length-append (x .text) [], free)
       opened false = let l = settingsLineOf (x .session .sequence) (x .session .engine .settings .width) (x .session .engine .settings .beats) in omega (arith, length-append (x .text) (lineOf l), line-some l, free)
 
       by : (m : Mode) → x .session .mode ≡ m → weighed room (turnBy base input x m) < 3 * (room - length (x .text)) + weight m
       by modes.Start e = opened (settingsAt input (x .at))
-      by modes.Records e = let t = recordTurnOf (x .session) (base + x .at) input (x .at) (x .lent) in told (t .effect .session .mode) (t .effect .line)
+      by modes.Records e =
+          cases (λ (y : Replay). weighed room (nextOn base input y) < 3 * (room - length (x .text)) + 1) (calledOf (x .session .chosen) input (x .at))
+          (λ _. next (swapped x) refl) (λ _. next x refl)
       by (modes.Steps left taken) e =
           let a = stepLineOf (x .session) left taken (x .lent) in
           omega (arith, length-append (x .text) (lineOf (a .effect .line)), line-some (a .effect .line), weight-small (a .effect .session .mode), free)

@@ -24,7 +24,7 @@ use Rattle.session.specs.Pass.{replayAs, stepOn, turnOn}
 
 -- a session in the midst of an ST
 abbrev pub stepping : Session → Engine → ℕ → ℕ → Session
-stepping s e left taken = record { engine = e; monitor = s .monitor; sequence = s .sequence; windows = s .windows; mode = modes.Steps left taken }
+stepping s e left taken = record { engine = e; monitor = s .monitor; sequence = s .sequence; windows = s .windows; chosen = s .chosen; mode = modes.Steps left taken }
 
 module _ (s : Session) (e : Engine) (left taken : ℕ) (lent : Lent) (base : ℕ) (input : List ℕ) (at : ℕ) where
   pub stop-turn : stopsOf (e .phase) left taken (acceptedOf e (s .windows) (length (lent .memory))) ≡ true → (text : List ℕ)
@@ -33,7 +33,7 @@ module _ (s : Session) (e : Engine) (left taken : ℕ) (lent : Lent) (base : ℕ
   unfolding turnOn
   stop-turn stop text =
       ap (stepOn (replayAs (stepping s e left taken) at lent text))
-      (sym (yes (after (steppedOf (stepping s e left taken) left taken (r .event) (r .engine)) (lend (r .memory) (lent .windows))) stop refl))
+      (sym (yes (after (steppedOf (stepping s e left taken) left taken (r .event) (r .engine)) (lend (r .memory) (lent .windows) (lent .other))) stop refl))
     where
       r : AfterAdvance
       r = advanceOf e (lent .memory) (windowsOf (take (usedOf (s .windows)) (lent .windows)))
@@ -41,13 +41,13 @@ module _ (s : Session) (e : Engine) (left taken : ℕ) (lent : Lent) (base : ℕ
   pub step-turn : stopsOf (e .phase) left taken (acceptedOf e (s .windows) (length (lent .memory))) ≡ false → {a : Advanced} {m : List ℕ}
       → advanceSeen a m ≡ advanceOf e (lent .memory) (windowsOf (take (usedOf (s .windows)) (lent .windows))) → (text : List ℕ)
       → turnOn base input (replayAs (stepping s e left taken) at lent text)
-      ≡ replayAs (steppedOf (stepping s e left taken) left taken (a .event) (a .engine) .session) at (lend m (lent .windows))
+      ≡ replayAs (steppedOf (stepping s e left taken) left taken (a .event) (a .engine) .session) at (lend m (lent .windows) (lent .other))
       (text ++ lineOf (steppedOf (stepping s e left taken) left taken (a .event) (a .engine) .line))
   unfolding turnOn
   step-turn go {a} {m} ensures text =
       ap (stepOn (replayAs (stepping s e left taken) at lent text))
       (sym (no (after (stoppedOf (stepping s e left taken) taken) lent) go
-      (ap (λ (r : AfterAdvance). after (steppedOf (stepping s e left taken) left taken (r .event) (r .engine)) (lend (r .memory) (lent .windows))) ensures)))
+      (ap (λ (r : AfterAdvance). after (steppedOf (stepping s e left taken) left taken (r .event) (r .engine)) (lend (r .memory) (lent .windows) (lent .other))) ensures)))
 
 -- refusals need not be judged again: a step that is not refused leaves a state that is not
 pub accepted-on : (e : Engine) (n : ℕ) (m : List ℕ) (windows : List Window) → Bytes m → acceptedOf e n (length m) ≡ true

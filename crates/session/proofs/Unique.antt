@@ -10,7 +10,8 @@ use lib.Dec.{ltb}
 use borrow.Author.Tests.{ltb-true, ltb-false}
 use Rattle.kit.proofs.Choice.{decide, never}
 use Rattle.session.specs.declared.Session.{Session}
-use Rattle.session.specs.declared.Passed.{Passed}
+use Rattle.session.specs.declared.AfterPass.{AfterPass}
+use Rattle.state.specs.declared.engine.Engine.{Engine}
 use Rattle.session.specs.Effect.{lend}
 use Rattle.session.specs.Pass.{Replay, replayAs, begin, goesOn, turnsOf, Passes, PassUnique}
 
@@ -23,33 +24,33 @@ first-unique p n k below-n at-n below-k at-k =
     (decide (ltb k n)))
     (decide (ltb n k))
 
-module _ (s : Session) (base : ℕ) (input : List ℕ) (ended : Bool) (m w out : List ℕ) where
+module _ (s : Session) (o : Engine) (base : ℕ) (input : List ℕ) (ended : Bool) (m w out : List ℕ) where
   -- the result and the buffer, from the replay after the turns
-  resultOf : Replay → Passed
-  resultOf x = record { session = x .session; at = x .at; put = length (x .text) }
+  resultOf : Replay → AfterPass
+  resultOf x = record { session = x .session; other = x .lent .other; at = x .at; put = length (x .text) }
 
   outOf : Replay → List ℕ
   outOf x = x .text ++ drop (length (x .text)) out
 
-  module _ {r : Passed} {m′ w′ out′ : List ℕ} (p : Passes s base input ended m w out r m′ w′ out′) where
+  module _ {r : AfterPass} {m′ w′ out′ : List ℕ} (p : Passes s o base input ended m w out r m′ w′ out′) where
     endOf : Replay
-    endOf = replayAs (r .session) (r .at) (lend m′ w′) (p .text)
+    endOf = replayAs (r .session) (r .at) (lend m′ w′ (r .other)) (p .text)
 
     result-is : r ≡ resultOf endOf
     unfolding resultOf endOf
-    result-is = ap {B = Passed} (λ (n : ℕ). record { session = r .session; at = r .at; put = n }) (p .put)
+    result-is = ap {B = AfterPass} (λ (n : ℕ). record { session = r .session; other = r .other; at = r .at; put = n }) (p .put)
 
     out-is : out′ ≡ outOf endOf
     unfolding outOf endOf
     out-is = p .stored ∙ ap (λ (n : ℕ). p .text ++ drop n out) (p .put)
 
-  module _ {r r′ : Passed} {m₁ w₁ out₁ m₂ w₂ out₂ : List ℕ} (p : Passes s base input ended m w out r m₁ w₁ out₁) (q : Passes s base input ended m w out r′ m₂ w₂ out₂) where
+  module _ {r r′ : AfterPass} {m₁ w₁ out₁ m₂ w₂ out₂ : List ℕ} (p : Passes s o base input ended m w out r m₁ w₁ out₁) (q : Passes s o base input ended m w out r′ m₂ w₂ out₂) where
     same-end : endOf p ≡ endOf q
     unfolding endOf
     same-end =
         p .ends
-        ∙ ap (λ (n : ℕ). turnsOf n base input (begin s m w))
-        (first-unique (λ (n : ℕ). goesOn (length out) input ended (turnsOf n base input (begin s m w))) (p .turns) (q .turns) (p .goes) (p .stops) (q .goes) (q .stops))
+        ∙ ap (λ (n : ℕ). turnsOf n base input (begin s m w o))
+        (first-unique (λ (n : ℕ). goesOn (length out) input ended (turnsOf n base input (begin s m w o))) (p .turns) (q .turns) (p .goes) (p .stops) (q .goes) (q .stops))
         ∙ sym (q .ends)
 
     same : (r ≡ r′) × (m₁ ≡ m₂) × (w₁ ≡ w₂) × (out₁ ≡ out₂)
@@ -62,4 +63,4 @@ module _ (s : Session) (base : ℕ) (input : List ℕ) (ended : Bool) (m w out :
     )
 
 pub pass-unique : PassUnique
-pass-unique s base input ended m w out r r′ m₁ w₁ out₁ m₂ w₂ out₂ p q = same s base input ended m w out p q
+pass-unique s o base input ended m w out r r′ m₁ w₁ out₁ m₂ w₂ out₂ p q = same s o base input ended m w out p q

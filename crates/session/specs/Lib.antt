@@ -1,3 +1,4 @@
+pub mod Chosen
 pub mod Effect
 pub mod Stepping
 pub mod Turn

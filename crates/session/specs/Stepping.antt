@@ -61,7 +61,7 @@ stoppedOf s taken = record { session = withMode s Records; line = stopLineOf (s 
 -- a step's line, and one step less is left
 abbrev pub steppedOf : Session → ℕ → ℕ → Event → Engine → Effect
 steppedOf s left taken event e = record {
-  session = record { engine = e; monitor = s .monitor; sequence = s .sequence; windows = s .windows; mode = Steps (left - 1) (taken + 1) };
+  session = record { engine = e; monitor = s .monitor; sequence = s .sequence; windows = s .windows; chosen = s .chosen; mode = Steps (left - 1) (taken + 1) };
   line = eventLineOf (s .sequence) event;
 }
 
@@ -70,4 +70,4 @@ abbrev pub stepLineOf : Session → ℕ → ℕ → Lent → After
 stepLineOf s left taken lent =
     let r = advanceOf (s .engine) (lent .memory) (windowsOf (take (usedOf (s .windows)) (lent .windows))) in
     when (stopsOf (s .engine .phase) left taken (acceptedOf (s .engine) (s .windows) (length (lent .memory)))) (after (stoppedOf s taken) lent)
-    (after (steppedOf s left taken (r .event) (r .engine)) (lend (r .memory) (lent .windows)))
+    (after (steppedOf s left taken (r .event) (r .engine)) (lend (r .memory) (lent .windows) (lent .other)))

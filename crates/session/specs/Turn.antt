@@ -8,32 +8,36 @@ use Rattle.kit.specs.Choice.{when, both}
 use Rattle.kit.specs.declared.answer.Answer.the-variants as answers
 use Rattle.kit.specs.Answer.{numberOf}
 use Rattle.record.specs.declared.reading.Body.{Body}
-use Rattle.record.specs.declared.reading.Body.the-variants.{Settings, Memory, Window, Write, Read, Steps, Clock}
+use Rattle.record.specs.declared.reading.Body.the-variants.{Settings, Memory, Window, Write, Read, Steps, Astray, Clock}
 use Rattle.record.specs.declared.reading.Reading.{Reading}
 use Rattle.record.specs.declared.reading.Reading.the-variants.{Found, Refused}
 use Rattle.record.specs.Reading.{readingOf}
 use Rattle.session.specs.declared.Session.{Session}
 use Rattle.session.specs.declared.Effect.{Effect}
+use Rattle.session.specs.Chosen.{twoOf}
 use Rattle.session.specs.Effect.{Lent, After, after, badOf, settingsOf, memoryOf, windowOf, writeOf, readOf, stepsOf, clockOf}
 
 -- the bytes of an MM record stand in the input, 12 bytes after its mark
 abbrev pub DataFits : List ℕ → ℕ → Body → Type 0
-DataFits input at (Settings width beats) = Unit {0}
+DataFits input at (Settings two width beats) = Unit {0}
 DataFits input at (Memory address count) = at + 12 + count ≤ length input
 DataFits input at (Window start count) = Unit {0}
 DataFits input at (Write offset value) = Unit {0}
 DataFits input at (Read offset) = Unit {0}
 DataFits input at (Steps count) = Unit {0}
+DataFits input at Astray = Unit {0}
 DataFits input at (Clock bits clock) = Unit {0}
 
--- what each record does and prints
+-- what each record does and prints, to the engine that it is for if it is for one; that engine is chosen. A record for an
+-- engine that is not there is refused
 unfoldable pub applyOf : Session → ℕ → ℕ → List ℕ → ℕ → Lent → Body → After
-applyOf s n position input at lent (Settings width beats) = after (settingsOf s n width beats position) lent
+applyOf s n position input at lent (Settings two width beats) = after (settingsOf s n two width beats position) lent
 applyOf s n position input at lent (Memory address count) = memoryOf s n address count position input (at + 12) lent
 applyOf s n position input at lent (Window start count) = windowOf s n start count position lent
 applyOf s n position input at lent (Write offset value) = after (writeOf s n offset value) lent
 applyOf s n position input at lent (Read offset) = after (readOf s n offset) lent
 applyOf s n position input at lent (Steps count) = after (stepsOf s n count) lent
+applyOf s n position input at lent Astray = after (badOf s (numberOf answers.Engine) position) lent
 applyOf s n position input at lent (Clock bits clock) = after (clockOf s n bits clock position) lent
 
 -- a record's effect, the place of the next one, and what is lent
@@ -45,14 +49,15 @@ pub record Turn : Type 0 where
 abbrev pub turnAs : After → ℕ → Turn
 turnAs a at = record { effect = a .effect; at = at; lent = a .lent }
 
--- CF comes first, and may carry 0
+-- CF and C2 come first, and may carry 0
 abbrev pub numbered : Body → Bool
-numbered (Settings width beats) = false
+numbered (Settings two width beats) = false
 numbered (Memory address count) = true
 numbered (Window start count) = true
 numbered (Write offset value) = true
 numbered (Read offset) = true
 numbered (Steps count) = true
+numbered Astray = true
 numbered (Clock bits clock) = true
 
 -- any other record's sequence number has to be above the last one
@@ -68,4 +73,4 @@ recordBy s position input at lent (Found r next) =
 
 -- the record at `at`, which is the trace's first where its position is 0
 abbrev pub recordTurnOf : Session → ℕ → List ℕ → ℕ → Lent → Turn
-recordTurnOf s position input at lent = recordBy s position input at lent (readingOf input at (eqb position 0))
+recordTurnOf s position input at lent = recordBy s position input at lent (readingOf input at (eqb position 0) (twoOf (s .chosen)))

@@ -1,8 +1,11 @@
 // What a replay holds between two lines, beside the memory and the windows that the program lends; specs/ says what each
 // record of a trace does to it and prints.
 pub mod bad;
+pub mod chosen;
+pub mod hands;
 pub mod ready;
 
+use crate::chosen::Chosen;
 use kit::settings::Settings;
 use listing::line::Line;
 use monitor::monitor::Monitor;
@@ -19,12 +22,14 @@ pub enum Mode {
     Over,
 }
 
-// `sequence` is the last good record's, and `windows` the number of sick windows so far.
+// `engine` is the only one or, of two, the chosen one: the one that the last WR, RD or ST was for. `sequence` is the last good
+// record's, and `windows` the number of sick windows so far.
 pub struct Session {
     pub engine: Engine,
     pub monitor: Monitor,
     pub sequence: u32,
     pub windows: u32,
+    pub chosen: Chosen,
     pub mode: Mode,
 }
 
@@ -37,6 +42,14 @@ pub struct Effect {
 // The session after some turns, the place of the next record, and the place past the bytes that were put.
 pub struct Passed {
     pub session: Session,
+    pub at: usize,
+    pub put: usize,
+}
+
+// What a pass leaves: the same, and the engine that is not the chosen one.
+pub struct AfterPass {
+    pub session: Session,
+    pub other: Engine,
     pub at: usize,
     pub put: usize,
 }
@@ -72,6 +85,7 @@ pub fn start() -> Session
         monitor,
         sequence: 0,
         windows: 0,
+        chosen: Chosen::Only,
         mode: Mode::Start,
     }
 }

@@ -2,12 +2,16 @@
 use crate::LINE_ROOM;
 use crate::LONGEST_RECORD;
 use crate::Mode;
+use crate::chosen::Chosen;
+use crate::chosen::is_two;
 use record::follows::follows;
+use record::mark;
+use record::size;
 ghost use mathlib.Core.Path.{_≡_};
 ghost use Prim.Native.Nat.{_≤_};
 ghost use lib.ListN.{length};
 ghost use Rattle.session.specs.declared.Mode.the-variants.{Records};
-ghost use Rattle.session.specs.Pass.{readyOf, goesOnWith};
+ghost use Rattle.session.specs.Pass.{readyOf, goesOnWith, goesOnWriting};
 
 // With `left` bytes of the part left a record is not cut off by its end; at the trace's end any byte is a record's.
 pub fn record_ready(left: usize, ended: bool) -> bool
@@ -53,4 +57,23 @@ pub fn goes_on(
         return false;
     }
     follows(input, at, mark, size, before)
+}
+
+// The same of WR records, for one engine only: of two, the next record may be for the other.
+pub fn goes_on_writing(
+    chosen: Chosen,
+    input: &[u8],
+    at: usize,
+    ended: bool,
+    put: usize,
+    room: usize,
+    before: u32,
+) -> bool
+    requires { ⌜ (at ≤ length (now input)) × (put ≤ room) ⌝ }
+    ensures { λ r. ⌜ r ≡ goesOnWriting chosen (now (input .entry)) at ended put room before ⌝ }
+{
+    if is_two(chosen) {
+        return false;
+    }
+    goes_on(input, at, ended, put, room, mark::WR, size::WR, before)
 }

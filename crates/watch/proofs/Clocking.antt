@@ -25,7 +25,7 @@ use Rattle.watch.specs.Judged.{clockBody, judgedOf}
 
 -- a session in the midst of its AR records
 abbrev pub clocking : Session → Monitor → ℕ → Session
-clocking s m before = record { engine = s .engine; monitor = m; sequence = before; windows = s .windows; mode = s .mode }
+clocking s m before = record { engine = s .engine; monitor = m; sequence = before; windows = s .windows; chosen = s .chosen; mode = s .mode }
 
 -- a clock that was taken
 abbrev pub clockedOf : Session → ℕ → Seen → Effect

@@ -17,6 +17,7 @@ use Rattle.record.specs.Claims.{longest}
 use Rattle.session.specs.declared.Mode.{Mode}
 use Rattle.session.specs.declared.Mode.the-variants as modes
 use Rattle.session.specs.declared.Session.{Session}
+use Rattle.state.specs.declared.engine.Engine.{Engine}
 use Rattle.session.specs.Effect.{Lent, lend}
 use Rattle.session.specs.Pass.{readyOf, readyIn, lineRoom, Replay, replayAs, beginWith, turnOn, turnsOf}
 use Rattle.session.proofs.Turns.{turns-join}
@@ -94,15 +95,15 @@ module _ (input part rest : List ℕ) (place : ℕ) (ended : Bool) (within : pla
 -- ---- replays
 
 -- what a replay has come to, as turns on the whole trace
-record Seen (input : List ℕ) (place : ℕ) (s : Session) (m w text : List ℕ) : Type 0 where
+record Seen (input : List ℕ) (place : ℕ) (s : Session) (o : Engine) (m w text : List ℕ) : Type 0 where
   turns : ℕ
   lines : List ℕ
   said : text ≡ headerOf ++ lines
   ready : (k : ℕ) → k < turns → readyIn input true (turnsOf k 0 input atStart) ≡ true
-  ends : replayAs s place (lend m w) lines ≡ turnsOf turns 0 input atStart
+  ends : replayAs s place (lend m w o) lines ≡ turnsOf turns 0 input atStart
   within : place ≤ length input
 
-seen : {input : List ℕ} {place : ℕ} {s : Session} {m w text : List ℕ} → Replays input place s m w text → Seen input place s m w text
+seen : {input : List ℕ} {place : ℕ} {s : Session} {o : Engine} {m w text : List ℕ} → Replays input place s o m w text → Seen input place s o m w text
 unfolding turnsOf
 seen begun = record {
   turns = 0;
@@ -112,8 +113,8 @@ seen begun = record {
   ends = refl;
   within = omega arith;
 }
-seen {input} (passed {place} {s} {m} {w} {text} before part rest ended split last out r m′ w′ out′ p) =
-    let lent = lend m w in
+seen {input} (passed {place} {s} {o} {m} {w} {text} before part rest ended split last out r m′ w′ out′ p) =
+    let lent = lend m w o in
     let h = seen before in
     let can : (k : ℕ) → k < p .turns → readyIn part ended (turnsOf k place part (beginWith s lent)) ≡ true =
     λ k i. both-right (leb (length (turnsOf k place part (beginWith s lent) .text) + lineRoom) (length out)) (readyIn part ended (turnsOf k place part (beginWith s lent))) (p .goes k i) in
@@ -141,7 +142,7 @@ seen {input} (passed {place} {s} {m} {w} {text} before part rest ended split las
 pub listing : Listing
 unfolding listingOf
 listing = record {
-  whole = λ input place s m w text q stop.
+  whole = λ input place s o m w text q stop.
       let h = seen q in
       let n = suc (mostTurns * length input) in
       let turned : h .turns + n ≡ n + h .turns = omega arith in

@@ -13,7 +13,7 @@ use Rattle.kit.specs.Settings.{legalSettings}
 use Rattle.kit.proofs.Choice.{cases, never}
 use Rattle.monitor.specs.Monitor.{busClockOf}
 use Rattle.record.specs.declared.reading.Body.{Body}
-use Rattle.record.specs.declared.reading.Body.the-variants.{Settings, Memory, Window, Write, Read, Steps, Clock}
+use Rattle.record.specs.declared.reading.Body.the-variants.{Settings, Memory, Window, Write, Read, Steps, Astray, Clock}
 use Rattle.record.specs.declared.reading.Reading.{Reading}
 use Rattle.record.specs.declared.reading.Reading.the-variants.{Found, Refused}
 use Rattle.record.specs.Reading.{readingOf}
@@ -21,10 +21,11 @@ use Rattle.session.specs.declared.Mode.{Mode}
 use Rattle.session.specs.declared.Mode.the-variants as modes
 use Rattle.session.specs.declared.Session.{Session}
 use Rattle.session.specs.declared.Effect.{Effect}
+use Rattle.session.specs.Chosen.{twoOf, calledOf}
 use Rattle.session.specs.Effect.{Lent, After}
 use Rattle.session.specs.Stepping.{mostSteps, stopsOf, acceptedOf, stepLineOf}
 use Rattle.session.specs.Turn.{applyOf, Turn, staleOf, recordBy}
-use Rattle.session.specs.Pass.{readyOf, readyIn, Replay, turnBy, turnOn}
+use Rattle.session.specs.Pass.{readyOf, readyIn, Replay, swapped, nextOn, turnBy, turnOn}
 use Rattle.session.proofs.Records.{inside}
 use Rattle.whole.specs.Listing.{mostTurns}
 
@@ -63,26 +64,33 @@ module _ (s : Session) (position : ℕ) (input : List ℕ) (at : ℕ) (lent : Le
 
     apply-less : (n : ℕ) (b : Body) → Less (applyOf s n position input at lent b .effect)
     unfolding applyOf
-    apply-less n (Settings width beats) = cases Less (legalSettings width beats) (λ _. stays) (λ _. over)
+    apply-less n (Settings two width beats) = cases Less (legalSettings width beats) (λ _. stays) (λ _. over)
     apply-less n (Memory address count) = cases (λ (a : After). Less (a .effect)) (ltb (length (lent .memory)) (address + count)) (λ _. over) (λ _. stays)
     apply-less n (Window start count) = cases (λ (a : After). Less (a .effect)) (leb mostWindows (s .windows)) (λ _. over) (λ _. stays)
     apply-less n (Write offset value) = stays
     apply-less n (Read offset) = stays
     apply-less n (Steps count) = omega arith
+    apply-less n Astray = over
     apply-less n (Clock bits clock) =
         cases Less (ltb 7 bits) (λ _. over)
         (λ _. cases Less (eqb (busClockOf (s .monitor) (s .engine .settings .width) (s .engine .settings .beats) clock .number) 0) (λ _. stays) (λ _. over))
 
-  record-less : 0 < length input - at → (v : Reading) → readingOf input at (eqb position 0) ≡ v
+  record-less : 0 < length input - at → (v : Reading) → readingOf input at (eqb position 0) (twoOf (s .chosen)) ≡ v
       → (let t = recordBy s position input at lent v in measure (length input - t .at) (t .effect .session .mode)) < mostTurns * (length input - at)
   record-less some Refused e = omega arith
   record-less some (Found r next) e =
-      let i = inside input at (eqb position 0) r next e in
+      let i = inside input at (eqb position 0) (twoOf (s .chosen)) r next e in
       cases (λ (t : Turn). measure (length input - t .at) (t .effect .session .mode) < mostTurns * (length input - at)) (staleOf (s .sequence) (r .sequence) (r .body)) (λ _. omega arith)
       (λ _. apply-less next (i .0) (i .1) (r .sequence) (r .body))
 
 abbrev pub measureOf : List ℕ → Replay → ℕ
 measureOf input r = measure (length input - r .at) (r .session .mode)
+
+-- the next record
+next-less : (input : List ℕ) (r : Replay) → r .session .mode ≡ modes.Records → 0 < length input - r .at
+    → measureOf input (nextOn 0 input r) < mostTurns * (length input - r .at)
+next-less input r e some =
+    record-less (r .session) (0 + r .at) input (r .at) (r .lent) e some (readingOf input (r .at) (eqb (0 + r .at) 0) (twoOf (r .session .chosen))) refl
 
 pub turn-less : (input : List ℕ) (r : Replay) → readyIn input true r ≡ true → measureOf input (turnOn 0 input r) < measureOf input r
 unfolding turnOn
@@ -92,6 +100,7 @@ turn-less input r ready = go (r .session .mode) refl ready
         → measureOf input (turnBy 0 input r mode) < measure (length input - r .at) mode
     go modes.Start e f = omega arith
     go modes.Records e f =
-        record-less (r .session) (0 + r .at) input (r .at) (r .lent) e (ltb-true 0 (length input - r .at) f) (readingOf input (r .at) (eqb (0 + r .at) 0)) refl
+        cases (λ (x : Replay). measureOf input (nextOn 0 input x) < mostTurns * (length input - r .at)) (calledOf (r .session .chosen) input (r .at))
+        (λ _. next-less input (swapped r) e (ltb-true 0 (length input - r .at) f)) (λ _. next-less input r e (ltb-true 0 (length input - r .at) f))
     go (modes.Steps n taken) e f = step-less (r .session) n taken (r .lent) (length input - r .at)
     go modes.Over e f = absurd (never f)

@@ -25,7 +25,7 @@ use Rattle.steps.proofs.Keeps.{advance-keeps, advance-well-formed}
 use Rattle.steps.proofs.Stored.{take-bytes, drop-bytes, sets-bytes}
 use Rattle.monitor.specs.Monitor.{busClockOf}
 use Rattle.record.specs.declared.reading.Body.{Body}
-use Rattle.record.specs.declared.reading.Body.the-variants.{Settings, Memory, Window, Write, Read, Steps, Clock}
+use Rattle.record.specs.declared.reading.Body.the-variants.{Settings, Memory, Window, Write, Read, Steps, Astray, Clock}
 use Rattle.record.specs.declared.reading.Reading.{Reading}
 use Rattle.record.specs.declared.reading.Reading.the-variants.{Found, Refused}
 use Rattle.record.specs.Reading.{readingOf}
@@ -35,20 +35,22 @@ use Rattle.session.specs.declared.Mode.{Mode}
 use Rattle.session.specs.declared.Mode.the-variants as modes
 use Rattle.session.specs.declared.Session.{Session}
 use Rattle.session.specs.declared.Effect.{Effect}
-use Rattle.session.specs.declared.Passed.{Passed}
+use Rattle.session.specs.declared.AfterPass.{AfterPass}
+use Rattle.kit.specs.declared.settings.Settings.{Settings as Settings′}
+use Rattle.session.specs.Chosen.{twoOf, calledOf, withSettings}
 use Rattle.session.specs.Effect.{startOf, Lent, After}
 use Rattle.session.specs.Stepping.{usedOf, stopsOf, acceptedOf, stepLineOf}
 use Rattle.session.specs.Turn.{applyOf, Turn, staleOf, recordBy}
-use Rattle.session.specs.Pass.{readyOf, lineRoom, Replay, begin, turnBy, turnOn, turnsOf, Passes}
+use Rattle.session.specs.Pass.{readyOf, lineRoom, Replay, begin, swapped, nextOn, turnBy, turnOn, turnsOf, Passes}
 use Rattle.session.proofs.Turns.{both-no}
 use Rattle.session.proofs.Unique.{pass-unique}
 use Rattle.whole.specs.Listing.{startMemory, startWindows, Replays, begun, passed}
 use Rattle.whole.specs.Sound.{Sound, SoundIn, Sessions}
 use Rattle.whole.proofs.Bytes.{zero-bytes}
 
-start : SoundIn startOf startMemory startWindows
+start-sound : Sound (startOf .engine) 0 startMemory startWindows
 unfolding legalWidth legalBeats
-start = record {
+start-sound = record {
   legal = refl;
   well = fresh-well-formed (record { width = 4; beats = 64 });
   source = omega arith;
@@ -59,8 +61,9 @@ start = record {
   room = length-replicate {A = ℕ} (2 * mostWindows) 0;
 }
 
+-- the chosen engine
 abbrev SoundAs : Session → Lent → Type 0
-SoundAs s lent = SoundIn s (lent .memory) (lent .windows)
+SoundAs s lent = Sound (s .engine) (s .windows) (lent .memory) (lent .windows)
 
 -- ---- the windows that a step is lent
 
@@ -121,7 +124,7 @@ module _ (s : Session) (position : ℕ) (input : List ℕ) (at : ℕ) (lent : Le
 
   apply-sound : (n : ℕ) (b : Body) → Within b → Stays (applyOf s n position input at lent b)
   unfolding applyOf
-  apply-sound n (Settings width beats) k =
+  apply-sound n (Settings two width beats) k =
       cases (λ (e : Effect). SoundAs (e .session) lent) (legalSettings width beats)
       (λ legal. record {
         legal = legal;
@@ -164,28 +167,86 @@ module _ (s : Session) (position : ℕ) (input : List ℕ) (at : ℕ) (lent : Le
       }
   apply-sound n (Read offset) k = h
   apply-sound n (Steps count) k = h
+  apply-sound n Astray k = h
   apply-sound n (Clock bits clock) k =
       cases (λ (e : Effect). SoundAs (e .session) lent) (ltb 7 bits) (λ _. h)
       (λ _. cases (λ (e : Effect). SoundAs (e .session) lent) (eqb (busClockOf (s .monitor) (s .engine .settings .width) (s .engine .settings .beats) clock .number) 0) (λ _. h) (λ _. h))
 
-  record-sound : (v : Reading) → readingOf input at (eqb position 0) ≡ v
+  record-sound : (v : Reading) → readingOf input at (eqb position 0) (twoOf (s .chosen)) ≡ v
       → SoundAs (recordBy s position input at lent v .effect .session) (recordBy s position input at lent v .lent)
   record-sound Refused e = h
   record-sound (Found r next) e =
       cases (λ (t : Turn). SoundAs (t .effect .session) (t .lent)) (staleOf (s .sequence) (r .sequence) (r .body)) (λ _. h)
-      (λ _. apply-sound (r .sequence) (r .body) (claims .ranges input at (eqb position 0) r next held e .1))
+      (λ _. apply-sound (r .sequence) (r .body) (claims .ranges input at (eqb position 0) (twoOf (s .chosen)) r next held e .1))
+
+-- ---- the other engine
+
+-- a turn that does not change the two leaves the other one as it is
+apply-other : (s : Session) (n position : ℕ) (input : List ℕ) (at : ℕ) (lent : Lent) (b : Body) → applyOf s n position input at lent b .lent .other ≡ lent .other
+unfolding applyOf
+apply-other s n position input at lent (Settings two width beats) = refl
+apply-other s n position input at lent (Memory address count) =
+    cases (λ (a : After). a .lent .other ≡ lent .other) (ltb (length (lent .memory)) (address + count)) (λ _. refl) (λ _. refl)
+apply-other s n position input at lent (Window start count) =
+    cases (λ (a : After). a .lent .other ≡ lent .other) (leb mostWindows (s .windows)) (λ _. refl) (λ _. refl)
+apply-other s n position input at lent (Write offset value) = refl
+apply-other s n position input at lent (Read offset) = refl
+apply-other s n position input at lent (Steps count) = refl
+apply-other s n position input at lent Astray = refl
+apply-other s n position input at lent (Clock bits clock) = refl
+
+record-other : (s : Session) (position : ℕ) (input : List ℕ) (at : ℕ) (lent : Lent) (v : Reading) → recordBy s position input at lent v .lent .other ≡ lent .other
+record-other s position input at lent Refused = refl
+record-other s position input at lent (Found r next) =
+    cases (λ (t : Turn). t .lent .other ≡ lent .other) (staleOf (s .sequence) (r .sequence) (r .body)) (λ _. refl)
+    (λ _. apply-other s (r .sequence) position input at lent (r .body))
+
+step-other : (s : Session) (n taken : ℕ) (lent : Lent) → stepLineOf s n taken lent .lent .other ≡ lent .other
+step-other s n taken lent =
+    cases (λ (a : After). a .lent .other ≡ lent .other) (stopsOf (s .engine .phase) n taken (acceptedOf (s .engine) (s .windows) (length (lent .memory)))) (λ _. refl) (λ _. refl)
 
 abbrev SoundAt : Replay → Type 0
-SoundAt r = SoundAs (r .session) (r .lent)
+SoundAt r = SoundIn (r .session) (r .lent .other) (r .lent .memory) (r .lent .windows)
+
+-- it stays sound beside a chosen engine that does, whose settings it has
+beside : {x : Settings′} {o o′ : Engine} {used : ℕ} {m w : List ℕ} → Sound (withSettings x o) used m w → o′ ≡ o
+    → {s : Session} {m′ w′ : List ℕ} → Sound (s .engine) (s .windows) m′ w′ → SoundIn s o′ m′ w′
+unfolding wellFormedOf
+beside {o = o} h same {s} {m′} {w′} g =
+    subst (λ (p : Engine). SoundIn s p m′ w′) (sym same)
+    (record {
+      chosen = g;
+      other = record {
+        legal = g .legal;
+        well = h .well;
+        source = h .source;
+        destination = h .destination;
+        few = g .few;
+        small = g .small;
+        bytes = g .bytes;
+        room = g .room;
+      };
+    })
+
+start : SoundIn startOf (startOf .engine) startMemory startWindows
+start = record { chosen = start-sound; other = start-sound }
+
+next-sound : (base : ℕ) (input : List ℕ) → Bytes input → (r : Replay) → SoundAt r → SoundAt (nextOn base input r)
+next-sound base input held r h =
+    let v = readingOf input (r .at) (eqb (base + r .at) 0) (twoOf (r .session .chosen)) in
+    beside (h .other) (record-other (r .session) (base + r .at) input (r .at) (r .lent) v)
+    (record-sound (r .session) (base + r .at) input (r .at) (r .lent) held (h .chosen) v refl)
 
 turn-sound : (base : ℕ) (input : List ℕ) → Bytes input → (r : Replay) → SoundAt r → SoundAt (turnOn base input r)
 unfolding turnOn
 turn-sound base input held r h = go (r .session .mode)
   where
     go : (mode : Mode) → SoundAt (turnBy base input r mode)
-    go modes.Start = h
-    go modes.Records = record-sound (r .session) (base + r .at) input (r .at) (r .lent) held h (readingOf input (r .at) (eqb (base + r .at) 0)) refl
-    go (modes.Steps n taken) = step-sound (r .session) n taken (r .lent) h
+    go modes.Start = record { chosen = h .chosen; other = h .other }
+    go modes.Records =
+        cases (λ (x : Replay). SoundAt (nextOn base input x)) (calledOf (r .session .chosen) input (r .at))
+        (λ _. next-sound base input held (swapped r) (record { chosen = h .other; other = h .chosen })) (λ _. next-sound base input held r h)
+    go (modes.Steps n taken) = beside (h .other) (step-other (r .session) n taken (r .lent)) (step-sound (r .session) n taken (r .lent) (h .chosen))
     go modes.Over = h
 
 turns-sound : (n base : ℕ) (input : List ℕ) → Bytes input → (r : Replay) → SoundAt r → SoundAt (turnsOf n base input r)
@@ -193,24 +254,24 @@ unfolding turnsOf
 turns-sound zero base input held r h = h
 turns-sound (suc n) base input held r h = turn-sound base input held (turnsOf n base input r) (turns-sound n base input held r h)
 
-pass-sound : (s : Session) (base : ℕ) (input : List ℕ) (ended : Bool) (m w out : List ℕ) (r : Passed) (m′ w′ out′ : List ℕ)
-    → Passes s base input ended m w out r m′ w′ out′ → Bytes input → SoundIn s m w → SoundIn (r .session) m′ w′
-pass-sound s base input ended m w out r m′ w′ out′ p held h =
-    subst SoundAt (sym (p .ends)) (turns-sound (p .turns) base input held (begin s m w) h)
+pass-sound : (s : Session) (o : Engine) (base : ℕ) (input : List ℕ) (ended : Bool) (m w out : List ℕ) (r : AfterPass) (m′ w′ out′ : List ℕ)
+    → Passes s o base input ended m w out r m′ w′ out′ → Bytes input → SoundIn s o m w → SoundIn (r .session) (r .other) m′ w′
+pass-sound s o base input ended m w out r m′ w′ out′ p held h =
+    subst SoundAt (sym (p .ends)) (turns-sound (p .turns) base input held (begin s m w o) h)
 
 part-bytes : (a b : List ℕ) → Bytes (a ++ b) → Bytes a
 part-bytes a b h = subst Bytes (take-append-seam a b) (take-bytes (length a) (a ++ b) h)
 
-replay-sound : {input : List ℕ} {place : ℕ} {s : Session} {m w text : List ℕ} → Bytes input → Replays input place s m w text → SoundIn s m w
+replay-sound : {input : List ℕ} {place : ℕ} {s : Session} {o : Engine} {m w text : List ℕ} → Bytes input → Replays input place s o m w text → SoundIn s o m w
 replay-sound held begun = start
-replay-sound {input} held (passed {place} {s} {m} {w} before part rest ended split last out r m′ w′ out′ p) =
-    pass-sound s place part ended m w out r m′ w′ out′ p (part-bytes part rest (subst Bytes split (drop-bytes place input held))) (replay-sound held before)
+replay-sound {input} held (passed {place} {s} {o} {m} {w} before part rest ended split last out r m′ w′ out′ p) =
+    pass-sound s o place part ended m w out r m′ w′ out′ p (part-bytes part rest (subst Bytes split (drop-bytes place input held))) (replay-sound held before)
 
 -- a pass that takes no turn
-still : (s : Session) (base : ℕ) (input : List ℕ) (ended : Bool) (m w out : List ℕ) → s .mode ≡ modes.Over
-    → Passes s base input ended m w out (record { session = s; at = 0; put = 0 }) m w out
+still : (s : Session) (o : Engine) (base : ℕ) (input : List ℕ) (ended : Bool) (m w out : List ℕ) → s .mode ≡ modes.Over
+    → Passes s o base input ended m w out (record { session = s; other = o; at = 0; put = 0 }) m w out
 unfolding turnsOf
-still s base input ended m w out e = record {
+still s o base input ended m w out e = record {
   turns = 0;
   text = [];
   goes = λ k h. absurd (omega arith);
@@ -226,9 +287,9 @@ sessions = record {
   start = start;
   turn = turn-sound;
   pass = pass-sound;
-  replay = λ input place s m w text held q. replay-sound held q;
-  accepted = λ s m w h. eq-eqb (refusalOf (s .engine) (length m) (min (s .windows) mostWindows)) 0 (not-refused h);
-  lent = λ s m w h. few-used (s .windows) (h .few);
-  over = λ s base input ended m w out r m′ w′ out′ p e.
-      pass-unique s base input ended m w out r (record { session = s; at = 0; put = 0 }) m′ w′ out′ m w out p (still s base input ended m w out e);
+  replay = λ input place s o m w text held q. replay-sound held q;
+  accepted = λ s o m w h. eq-eqb (refusalOf (s .engine) (length m) (min (s .windows) mostWindows)) 0 (not-refused (h .chosen));
+  lent = λ s o m w h. few-used (s .windows) (h .chosen .few);
+  over = λ s o base input ended m w out r m′ w′ out′ p e.
+      pass-unique s o base input ended m w out r (record { session = s; other = o; at = 0; put = 0 }) m′ w′ out′ m w out p (still s o base input ended m w out e);
 }

@@ -14,12 +14,11 @@ use kit::word::load_half;
 use listing::line::Line;
 use listing::line::put_write_line;
 use listing::word::Word;
-use record::mark;
 use record::size;
 use registers::write::write;
 use session::Passed;
 use session::Session;
-use session::ready::goes_on;
+use session::ready::goes_on_writing;
 
 // A write that is refused prints its answer and goes on.
 fn write_line(sequence: u32, offset: u32, answer: Answer) -> Line
@@ -34,7 +33,7 @@ fn write_line(sequence: u32, offset: u32, answer: Answer) -> Line
 }
 
 // From the WR record at `at` on, which was read and is in order, the lines of all that follow without another record between
-// them; everything but a WR in order is left to the caller.
+// them, if there is one engine; everything but a WR in order is left to the caller.
 pub fn writes(
     session: Session,
     sequence: u32,
@@ -56,6 +55,7 @@ pub fn writes(
     requires { ⌜ put + 64 ≤ length (now out) ⌝ }
     ensures { λ r. ⌜ TakesOnly base (now (input .entry)) ended session at (now (out .entry)) put r (now (out .exit)) ⌝ }
 {
+    let chosen = session.chosen;
     let mut engine = session.engine;
     let mut before = session.sequence;
     let mut sequence = sequence;
@@ -72,7 +72,7 @@ pub fn writes(
         put = put_write_line(leading, padded, out, put, line);
         before = sequence;
         at = next;
-        if !goes_on(input, at, ended, put, out.len(), mark::WR, size::WR, before) {
+        if !goes_on_writing(chosen, input, at, ended, put, out.len(), before) {
             break;
         }
         sequence = load(input, at + 2);

@@ -16,18 +16,18 @@ part-part-end : tie.Need-part-part-end
 part-part-end c = search needs
 
 pass-requires : tie.Need-pass-requires
-pass-requires c κs = let pre = c .before .before .before .before .before .before .before .before .before .pre in (pre .1, (search needs, pre .3))
+pass-requires c κs = let pre = c .before .before .before .before .before .before .before .before .before .before .pre in (pre .1, (search needs, pre .3))
 
 send-requires : tie.Need-send-requires
 send-requires c κs = search needs
 
 after-pass-requires : tie.Need-after-pass-requires
 after-pass-requires c κs =
-    let a = c .before .before .before .before .before .before .before .before .before .before .before .before .before .before .before .before .before .before .args in
-    let fits = c .before .before .before .before .before .before .before .before .before .before .before .before .before .before .before .before .before .before .pre .0 in
+    let a = c .before .before .before .before .before .before .before .before .before .before .before .before .before .before .before .before .before .before .before .args in
+    let fits = c .before .before .before .before .before .before .before .before .before .before .before .before .before .before .before .before .before .before .before .pre .0 in
     let used = pass-within (c .before .before .before .before .before .before .before .before .pass .ensures) in
     let long = pending-length (a .flow) (a .buffer .now) fits in
-    (omega (arith, used, long, fits .begins), omega (arith, used, long, fits .within, c .before .before .before .before .before .before .before .before .before .before .before .before .before .before .before .before .before .before .pre .2))
+    (omega (arith, used, long, fits .begins), omega (arith, used, long, fits .within, c .before .before .before .before .before .before .before .before .before .before .before .before .before .before .before .before .before .before .before .pre .2))
 
 same-length : tie.Need-same-length
 same-length c = search needs

@@ -20,7 +20,7 @@ bad-requires : tie.Need-bad-requires
 bad-requires c κs = search needs
 
 returns : tie.Need-returns
-returns c = λ w. yes _ (lt-ltb _ _ (c .before .if1 .taken)) (ap (λ (e : Effect). after e (lend (now (c .before .before .before .before .args .memory)) w)) (c .bad .ensures))
+returns c = λ w o. yes _ (lt-ltb _ _ (c .before .if1 .taken)) (ap (λ (e : Effect). after e (lend (now (c .before .before .before .before .args .memory)) w o)) (c .bad .ensures))
 
 add-from-end : tie.Need-add-from-end
 add-from-end c = search needs
@@ -52,8 +52,8 @@ same-length c = search needs
 returns-2 : tie.Need-returns-2
 returns-2 c =
     let a = c .before .before .before .before .before .before .before .before .before .before .args in
-    λ w. no _ (le-ltb _ _ (c .before .before .before .before .before .before .before .if1 .left))
-    (ap {B = After} (λ (m : List ℕ). after (record { session = withSequence (a .session) (a .sequence); line = record { sequence = a .sequence; word = words.Memory; first = a .address; second = a .count } }) (lend m w))
+    λ w o. no _ (le-ltb _ _ (c .before .before .before .before .before .before .before .if1 .left))
+    (ap {B = After} (λ (m : List ℕ). after (record { session = withSequence (a .session) (a .sequence); line = record { sequence = a .sequence; word = words.Memory; first = a .address; second = a .count } }) (lend m w o))
     (copied-part (now (a .input)) (now (a .memory)) (a .from) (a .address) (a .count) (c .before .before .before .before .before .before .before .before .before .before .pre) (c .before .before .before .before .before .before .before .if1 .left) (c .before .before .before .before .copy .last .1 .0) (c .before .before .before .before .copy .ensures .1)))
 
 pub memory-spec : {M : Type 1} → statement M

@@ -17,8 +17,8 @@ read-requires c κs = search needs
 number-requires : tie.Need-number-requires
 number-requires c κs = search needs
 
-cast-t18 : tie.Need-cast-t18
-cast-t18 c = search needs
+cast-t19 : tie.Need-cast-t19
+cast-t19 c = search needs
 
 returns : tie.Need-returns
 returns c =
@@ -28,8 +28,8 @@ returns c =
     ap {B = Effect} (λ (l : Line). record { session = withSequence (a .session) (a .sequence); line = l })
     (yes _ (eq-eqb _ 0 (sym n ∙ c .before .if1 .taken)) (ap {B = Line} (λ (v : Value). record { sequence = a .sequence; word = words.Read; first = a .offset; second = v .value }) r))
 
-cast-t21 : tie.Need-cast-t21
-cast-t21 c = search needs
+cast-t22 : tie.Need-cast-t22
+cast-t22 c = search needs
 
 returns-2 : tie.Need-returns-2
 returns-2 c =
@@ -41,4 +41,4 @@ returns-2 c =
 
 pub register-read-spec : {M : Type 1} → statement M
 register-read-spec =
-    tie.close (tie.spec read-requires number-requires cast-t18 returns cast-t21 returns-2)
+    tie.close (tie.spec read-requires number-requires cast-t19 returns cast-t22 returns-2)

@@ -17,7 +17,7 @@ bad-requires : tie.Need-bad-requires
 bad-requires c κs = search needs
 
 returns : tie.Need-returns
-returns c = λ m. yes _ (le-leb _ _ (c .before .if1 .taken)) (ap (λ (e : Effect). after e (lend m (now (c .before .before .before .before .args .windows)))) (c .bad .ensures))
+returns c = λ m o. yes _ (le-leb _ _ (c .before .if1 .taken)) (ap (λ (e : Effect). after e (lend m (now (c .before .before .before .before .args .windows)) o)) (c .bad .ensures))
 
 mul-windows : tie.Need-mul-windows
 mul-windows c = search needs
@@ -47,7 +47,7 @@ same-length : tie.Need-same-length
 same-length c = search needs
 
 returns-2 : tie.Need-returns-2
-returns-2 c = λ m. no _ (lt-leb _ _ (c .before .before .before .if1 .left)) refl
+returns-2 c = λ m o. no _ (lt-leb _ _ (c .before .before .before .if1 .left)) refl
 
 pub window-spec : {M : Type 1} → statement M
 window-spec =

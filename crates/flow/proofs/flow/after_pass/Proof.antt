@@ -16,15 +16,15 @@ sub-is-over c = search needs
 is-over-requires : tie.Need-is-over-requires
 is-over-requires c κs = search needs
 
-add-t11 : tie.Need-add-t11
-add-t11 c = search needs
+add-t12 : tie.Need-add-t12
+add-t12 c = search needs
 
 returns : tie.Need-returns
 returns c =
-    let f = c .before .before .before .before .before .args .flow in
-    let p = c .before .before .before .before .before .args .passed in
-    ap {B = Flow} (λ (o : Bool). record { session = p .session; position = f .position + p .at; at = f .at + p .at; filled = f .filled; ended = f .ended; over = o })
-    (c .before .is-over .ensures)
+    let f = c .before .before .before .before .before .before .args .flow in
+    let p = c .before .before .before .before .before .before .args .passed in
+    ap {B = Flow} (λ (o : Bool). record { session = p .session; other = p .other; position = f .position + p .at; at = f .at + p .at; filled = f .filled; ended = f .ended; over = o })
+    (c .before .before .is-over .ensures)
 
 pub after-pass-spec : {M : Type 1} → statement M
-after-pass-spec = tie.close (tie.spec add-at sub-is-over is-over-requires add-t11 returns)
+after-pass-spec = tie.close (tie.spec add-at sub-is-over is-over-requires add-t12 returns)

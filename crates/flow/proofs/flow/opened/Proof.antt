@@ -11,7 +11,7 @@ start-requires c κs = search needs
 
 returns : tie.Need-returns
 returns c =
-    ap {B = Flow} (λ (s : Session). record { session = s; position = 0; at = 0; filled = 0; ended = false; over = not (c .before .args .sent) }) (c .start .ensures)
+    ap {B = Flow} (λ (s : Session). record { session = s; other = s .engine; position = 0; at = 0; filled = 0; ended = false; over = not (c .before .before .args .sent) }) (c .before .start .ensures)
 
 pub opened-spec : {M : Type 1} → statement M
 opened-spec = tie.close (tie.spec start-requires returns)

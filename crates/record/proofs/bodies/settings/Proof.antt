@@ -4,16 +4,15 @@ use denote.Ref.{now}
 use borrow.Author.Tests.{not-true, not-false}
 use borrow.Author.Needs.{needs}
 use Rattle.record.specs.declared.reading.Body.the-variants.{Settings}
-use Rattle.record.specs.Mark.{CF}
-use Rattle.record.specs.Reading.{foundOf}
-use Rattle.record.proofs.Readings.{found, barred, short}
+use Rattle.record.specs.Reading.{foundOf, settingsKind}
+use Rattle.record.proofs.Readings.{barred, short, settings-allowed, settings-size, settings-found}
 use Rattle.record.proofs.bodies.settings.Statement.{statement}
 use Rattle.record.proofs.bodies.settings.Tie as tie
 
 returns : tie.Need-returns
 returns c =
     let a = c .before .before .args in
-    barred (now (a .input)) (a .at) (a .first) CF (not-true _ (c .if1 .taken))
+    barred (now (a .input)) (a .at) (a .first) (settingsKind (a .two)) (settings-allowed _ _ _ (a .two) ∙ not-true _ (c .if1 .taken))
 
 sub-if2 : tie.Need-sub-if2
 sub-if2 c = search needs
@@ -21,7 +20,7 @@ sub-if2 c = search needs
 returns-2 : tie.Need-returns-2
 returns-2 c =
     let a = c .before .before .before .args in
-    short (now (a .input)) (a .at) (a .first) CF (omega arith)
+    short (now (a .input)) (a .at) (a .first) (settingsKind (a .two)) (omega (arith, settings-size (now (a .input)) (a .at) (a .two)))
 
 add-load-half : tie.Need-add-load-half
 add-load-half c = search needs
@@ -47,8 +46,8 @@ found-requires c κs = search needs
 returns-3 : tie.Need-returns-3
 returns-3 c =
     let a = c .before .before .before .before .before .before .args in
-    found (now (a .input)) (a .at) (a .first) CF (not-false _ (c .before .before .before .before .if1 .left)) (omega arith)
-    (c .found .ensures ∙ (λ i. foundOf (now (a .input)) (a .at) 10 (Settings (c .before .before .load-half .ensures i) (c .before .load-half2 .ensures i))))
+    settings-found (now (a .input)) (a .at) (a .first) (a .two) (not-false _ (c .before .before .before .before .if1 .left)) (omega arith)
+    (c .found .ensures ∙ (λ i. foundOf (now (a .input)) (a .at) 10 (Settings (a .two) (c .before .before .load-half .ensures i) (c .before .load-half2 .ensures i))))
 
 pub settings-spec : {M : Type 1} → statement M
 settings-spec =

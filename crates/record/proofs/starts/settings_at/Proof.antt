@@ -1,3 +1,7 @@
+use mathlib.Core.Path.{refl, _∙_}
+use mathlib.Core.Bool.{true}
+use borrow.Author.Tests.{eq-eqb, ne-eqb}
+use Rattle.kit.proofs.Choice.{yes, no}
 use native.Mathlib.Omega.{arith}
 use denote.Ref.{now}
 use borrow.Author.Needs.{needs}
@@ -23,8 +27,13 @@ load-half-requires c κs = search needs
 
 returns-3 : tie.Need-returns-3
 returns-3 c =
-    let a = c .before .before .before .before .args in
-    by-mark (now (a .input)) (a .at) (omega arith) (c .load-half .ensures)
+    let a = c .before .before .before .before .before .args in
+    yes _ (eq-eqb _ _ (c .if3 .taken)) refl ∙ by-mark (now (a .input)) (a .at) (omega arith) (c .before .load-half .ensures)
+
+returns-4 : tie.Need-returns-4
+returns-4 c =
+    let a = c .before .before .before .before .before .args in
+    no true (ne-eqb _ _ (c .if3 .left)) refl ∙ by-mark (now (a .input)) (a .at) (omega arith) (c .before .load-half .ensures)
 
 pub settings-at-spec : {M : Type 1} → statement M
-settings-at-spec = tie.close (tie.spec returns sub-if2 returns-2 load-half-requires returns-3)
+settings-at-spec = tie.close (tie.spec returns sub-if2 returns-2 load-half-requires returns-3 returns-4)

@@ -11,29 +11,31 @@ use denote.Enum.Declared.{tagOf}
 use Rattle.kit.specs.Choice.{both}
 use Rattle.record.proofs.reading.Body.{the-type}
 use Rattle.record.specs.declared.reading.Body.{Body}
-use Rattle.record.specs.declared.reading.Body.the-variants.{Settings, Memory, Window, Write, Read, Steps, Clock}
+use Rattle.record.specs.declared.reading.Body.the-variants.{Settings, Memory, Window, Write, Read, Steps, Astray, Clock}
 use Rattle.session.specs.Turn.{numbered}
 use Rattle.session.proofs.Following.{above}
 use Rattle.session.proofs.Turns.{both-no}
 use Rattle.records.proofs.records.stale.Statement.{statement}
 use Rattle.records.proofs.records.stale.Tie as tie
 
-none : OneOf (1 ∷ 2 ∷ 3 ∷ 4 ∷ 5 ∷ 6 ∷ []) 0 → ⊥
+none : OneOf (1 ∷ 2 ∷ 3 ∷ 4 ∷ 5 ∷ 6 ∷ 7 ∷ []) 0 → ⊥
 none (inl t) = absurd (omega (arith, t))
 none (inr (inl t)) = absurd (omega (arith, t))
 none (inr (inr (inl t))) = absurd (omega (arith, t))
 none (inr (inr (inr (inl t)))) = absurd (omega (arith, t))
 none (inr (inr (inr (inr (inl t))))) = absurd (omega (arith, t))
-none (inr (inr (inr (inr (inr t))))) = absurd (omega (arith, t))
+none (inr (inr (inr (inr (inr (inl t)))))) = absurd (omega (arith, t))
+none (inr (inr (inr (inr (inr (inr t)))))) = absurd (omega (arith, t))
 
 -- any other record
-other : (b : Body) → OneOf (1 ∷ 2 ∷ 3 ∷ 4 ∷ 5 ∷ 6 ∷ []) (tagOf the-type b) → numbered b ≡ true
-other (Settings width beats) h = absurd (none h)
+other : (b : Body) → OneOf (1 ∷ 2 ∷ 3 ∷ 4 ∷ 5 ∷ 6 ∷ 7 ∷ []) (tagOf the-type b) → numbered b ≡ true
+other (Settings two width beats) h = absurd (none h)
 other (Memory address count) h = refl
 other (Window start count) h = refl
 other (Write offset value) h = refl
 other (Read offset) h = refl
 other (Steps count) h = refl
+other Astray h = refl
 other (Clock bits clock) h = refl
 
 returns : tie.Need-returns

@@ -1,6 +1,6 @@
 use mathlib.Core.Path.{_≡_, refl, subst}
 use mathlib.Core.Logic.{inl, inr}
-use mathlib.Core.Bool.{Bool, true}
+use mathlib.Core.Bool.{Bool, true, false}
 use mathlib.Core.List.{[], _∷_}
 use Prim.Native.Nat.{ℕ, _-_}
 use native.Mathlib.Omega.{arith}
@@ -13,7 +13,7 @@ use Rattle.kit.proofs.Choice.{never}
 use Rattle.session.proofs.Mode.{the-type}
 use Rattle.session.specs.declared.Mode.{Mode}
 use Rattle.session.specs.declared.Mode.the-variants as modes
-use Rattle.session.specs.Pass.{readyOf}
+use Rattle.session.specs.Pass.{readyOf, callsOther}
 use Rattle.opening.proofs.Taking.{takes-opening}
 use Rattle.trace.proofs.pass.turns.Statement.{statement}
 use Rattle.trace.proofs.pass.turns.Tie as tie
@@ -42,8 +42,15 @@ lines-requires c κs = search needs
 records-requires : tie.Need-records-requires
 records-requires c κs =
     let a = c .before .before .before .before .before .before .before .before .args in
-    let mode = reads (a .session .mode) (c .before .before .before .match .keys3) (length (now (a .input)) - a .at) (a .ended) (c .before .before .before .before .before .before .before .before .pre .0) in
-    ((mode, subst (λ (m : Mode). readyOf m (length (now (a .input)) - a .at) (a .ended) ≡ true) mode (c .before .before .before .before .before .before .before .before .pre .0)), c .before .before .before .before .before .before .before .before .pre .1)
+    let pre = c .before .before .before .before .before .before .before .before .pre in
+    let mode = reads (a .session .mode) (c .before .before .before .match .keys3) (length (now (a .input)) - a .at) (a .ended) (pre .0 .0) in (
+      (
+        mode,
+        subst (λ (m : Mode). readyOf m (length (now (a .input)) - a .at) (a .ended) ≡ true) mode (pre .0 .0),
+        subst (λ (m : Mode). callsOther m (a .session .chosen) (now (a .input)) (a .at) ≡ false) mode (pre .0 .1),
+      ),
+      pre .1,
+    )
 
 same-length : tie.Need-same-length
 same-length c = search needs
@@ -51,7 +58,7 @@ same-length c = search needs
 returns : tie.Need-returns
 returns c =
     let pre = c .before .before .before .before .before .before .before .before .before .before .pre in
-    takes-opening (c .before .before .before .before .enum-told .given .1) (pre .0) (pre .1 .1 .1 .1) (c .before .before .«open» .ensures)
+    λ o. takes-opening (c .before .before .before .before .enum-told .given .1) (pre .0 .0) (pre .1 .1 .1 .1) (c .before .before .«open» .ensures)
 
 same-length-2 : tie.Need-same-length-2
 same-length-2 c = search needs

@@ -1,0 +1,4 @@
+pub mod Calls
+pub mod Footprint
+pub mod Independence
+pub mod Worked

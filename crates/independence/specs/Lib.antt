@@ -1,0 +1,3 @@
+pub mod Footprint
+pub mod Independence
+pub mod Worked

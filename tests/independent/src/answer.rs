@@ -20,7 +20,7 @@ pub const PLAN: u32 = 7;
 pub const ROOM: u32 = 8;
 /// State not well formed.
 pub const STATE: u32 = 9;
-/// Record cut short, unknown mark, length out of range, or CF not first.
+/// Record cut short, unknown mark, length out of range, or CF or C2 not first.
 pub const RECORD: u32 = 10;
 /// Sequence number not above the last one.
 pub const SEQUENCE: u32 = 11;
@@ -28,6 +28,8 @@ pub const SEQUENCE: u32 = 11;
 pub const PLACE: u32 = 12;
 /// Bus clock field out of range.
 pub const FIELD: u32 = 13;
+/// Engine number not 1 or 2.
+pub const ENGINE: u32 = 21;
 
 /// Are width and beats both on the lists of answer 1? These are powers of two without a gap.
 #[inline]

@@ -11,8 +11,8 @@ const RECORD: [u8; 10] = {
     [first, second, 0, 0, 0, 0, WIDTH as u8, 0, OLDER_BEATS as u8, 0]
 };
 
-/// Copies a trace, with the record before it unless it starts with CF. Reading: nothing is judged,
-/// so a CF cut short is copied as it is, and an empty trace gets the record too.
+/// Copies a trace, with the record before it unless it starts with CF or C2. Reading: nothing is
+/// judged, so a CF cut short is copied as it is, and an empty trace gets the record too.
 pub fn convert_stream(mut input: impl Read, mut output: impl Write) -> io::Result<()> {
     let mut start = Vec::new();
     input.by_ref().take(SETTINGS_MARK.len() as u64).read_to_end(&mut start)?;

@@ -79,7 +79,7 @@ const SG_INCLUDED: u32 = 3;
 const DMA_INT_ERR: u32 = 4;
 const DMA_SLV_ERR: u32 = 5;
 const DMA_DEC_ERR: u32 = 6;
-const SG_INT_ERR: u32 = 8;
+pub(crate) const SG_INT_ERR: u32 = 8;
 const SG_SLV_ERR: u32 = 9;
 const SG_DEC_ERR: u32 = 10;
 // Bit numbers of both: the interrupt or its enable.
@@ -93,8 +93,8 @@ const TAIL_ENABLE: u32 = 1 << 1;
 const BTT_BITS: u32 = cut::LONGEST;
 // The low six bits of a pointer are dropped. Reading: descriptors at multiples of 64.
 const POINTER_BITS: u32 = !63;
-const DESCRIPTOR: usize = 32;
-const STATUS: u32 = 0x1c;
+pub(crate) const DESCRIPTOR: usize = 32;
+pub(crate) const STATUS: u32 = 0x1c;
 /// The most beats of a piece that goes to a fixed destination.
 const MOST_FIXED_BEATS: u32 = 16;
 /// Bytes of a full burst at width 4, beats 16.

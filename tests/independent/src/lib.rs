@@ -10,3 +10,4 @@ pub mod monitor;
 pub mod older;
 pub mod record;
 pub mod trace;
+pub mod two_engines;

@@ -1,7 +1,7 @@
 // Three tasks on a trace from standard input or from a named file:
 //   independent [FILE]          replays it and writes its listing
 //   independent older [FILE]    the same by the rules before the default of 64 beats
-//   independent convert [FILE]  puts a CF record (4, 16) before it unless it starts with CF
+//   independent convert [FILE]  puts a CF record (4, 16) before it unless it starts with CF or C2
 // A file with the name of a task is named with its folder: ./convert.
 // From RULES.md, "Trace and listing".
 // Exit status 0 sound or converted, 1 bad line, 2 unreadable file.

@@ -1,5 +1,6 @@
 // The listing of a trace by the rules before the default of 64 beats: without a CF it has 16 beats
 // and no line for them, and no record may carry 0. Converted traces are compared with it.
+// These rules are from a time without C2. Reading: it is an unknown mark then, answer 10.
 // From RULES.md, "Trace and listing".
 
 use crate::trace::{list, list_stream, Replay};

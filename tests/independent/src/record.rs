@@ -7,10 +7,41 @@ use crate::monitor::Clock;
 pub const LONGEST: usize = 6 + 6 + MOST_BYTES as usize;
 /// The most bytes of one MM record.
 const MOST_BYTES: u16 = 1024;
-/// The mark of the record that sets width and beats.
+/// The mark of the record that sets width and beats, and of the one that does so for two engines.
 pub(crate) const SETTINGS_MARK: [u8; 2] = *b"CF";
+const TWO_ENGINES_MARK: [u8; 2] = *b"C2";
 
-/// The body of a record; the bytes of an MM may be lent or owned.
+/// The form of a trace's records.
+#[derive(Clone, Copy, Debug, PartialEq, Eq)]
+pub enum Form {
+    /// No record carries an engine number, and C2 is an unknown mark.
+    OneEngine,
+    /// WR, RD and ST carry an engine number between sequence number and body.
+    TwoEngines,
+}
+
+impl Form {
+    /// The form of the whole trace goes by its first record's mark.
+    #[inline]
+    pub fn of(trace: &[u8]) -> Form {
+        if trace.starts_with(&TWO_ENGINES_MARK) {
+            Form::TwoEngines
+        } else {
+            Form::OneEngine
+        }
+    }
+
+    /// Takes the engine number of a WR, RD or ST off the front, good or not.
+    #[inline(always)]
+    fn take_engine(self, rest: &mut &[u8]) -> Result<Option<u8>, Cause> {
+        match self {
+            Form::OneEngine => Ok(None),
+            Form::TwoEngines => take(rest).map(|&[number]| Some(number)),
+        }
+    }
+}
+
+/// The body of a record; the bytes of an MM may be lent or owned. CF and C2 have the same one.
 #[derive(Clone, Debug, PartialEq, Eq)]
 pub enum Record<Bytes> {
     Settings { width: u16, beats: u16 },
@@ -120,12 +151,20 @@ fn u32_at(bytes: &[u8], at: usize) -> u32 {
 pub(crate) trait Taker<'a> {
     type Given;
 
-    /// Takes a record's number and body, and what is behind it.
-    fn take(self, sequence: u32, record: Record<&'a [u8]>, behind: &'a [u8]) -> Self::Given;
+    /// Takes a record's sequence number, the engine number if it carries one, its body, and what
+    /// is behind it.
+    fn take(
+        self,
+        sequence: u32,
+        engine: Option<u8>,
+        record: Record<&'a [u8]>,
+        behind: &'a [u8],
+    ) -> Self::Given;
 }
 
-/// A record's sequence number and body, and what is behind it.
-pub type Parts<'a> = (u32, Record<&'a [u8]>, &'a [u8]);
+/// A record's sequence number, the engine number if it carries one, its body, and what is behind
+/// it.
+pub type Parts<'a> = (u32, Option<u8>, Record<&'a [u8]>, &'a [u8]);
 
 /// Hands the parts back.
 struct HandBack;
@@ -134,21 +173,27 @@ impl<'a> Taker<'a> for HandBack {
     type Given = Parts<'a>;
 
     #[inline(always)]
-    fn take(self, sequence: u32, record: Record<&'a [u8]>, behind: &'a [u8]) -> Self::Given {
-        (sequence, record, behind)
+    fn take(
+        self,
+        sequence: u32,
+        engine: Option<u8>,
+        record: Record<&'a [u8]>,
+        behind: &'a [u8],
+    ) -> Self::Given {
+        (sequence, engine, record, behind)
     }
 }
 
-/// Does a trace start with CF? Reading: the two bytes decide, whatever is behind them.
+/// Does a trace start with CF or C2? Reading: the two bytes decide, whatever is behind them.
 #[inline]
 pub(crate) fn starts_with_settings(trace: &[u8]) -> bool {
-    trace.starts_with(&SETTINGS_MARK)
+    trace.starts_with(&SETTINGS_MARK) || Form::of(trace) == Form::TwoEngines
 }
 
-/// Reads the record at the front, or says why it gets answer 10. `first` says that it is the
-/// trace's first.
-pub fn read(trace: &[u8], first: bool) -> Result<Parts<'_>, Cause> {
-    read_to(HandBack, trace, first)
+/// Reads the record at the front, or says why it gets answer 10. `form` is that of the whole
+/// trace, and `first` says that the record is its first.
+pub fn read(trace: &[u8], form: Form, first: bool) -> Result<Parts<'_>, Cause> {
+    read_to(HandBack, trace, form, first)
 }
 
 /// The same for a taker.
@@ -156,6 +201,7 @@ pub fn read(trace: &[u8], first: bool) -> Result<Parts<'_>, Cause> {
 pub(crate) fn read_to<'a, T: Taker<'a>>(
     taker: T,
     trace: &'a [u8],
+    form: Form,
     first: bool,
 ) -> Result<T::Given, Cause> {
     let Some((head, mut rest)) = trace.split_first_chunk::<6>() else {
@@ -163,13 +209,14 @@ pub(crate) fn read_to<'a, T: Taker<'a>>(
     };
     let sequence = u32_at(head, 2);
     match [head[0], head[1]] {
-        SETTINGS_MARK => {
+        TWO_ENGINES_MARK if form == Form::OneEngine => Err(Cause::UnknownMark),
+        SETTINGS_MARK | TWO_ENGINES_MARK => {
             if !first {
                 return Err(Cause::LateSettings);
             }
             let body: &[u8; 4] = take(&mut rest)?;
             let record = Record::Settings { width: u16_at(body, 0), beats: u16_at(body, 2) };
-            Ok(taker.take(sequence, record, rest))
+            Ok(taker.take(sequence, None, record, rest))
         }
         [b'M', b'M'] => {
             let body: &[u8; 6] = take(&mut rest)?;
@@ -181,32 +228,35 @@ pub(crate) fn read_to<'a, T: Taker<'a>>(
                 return Err(Cause::TooLong);
             }
             let bytes = rest.split_off(..usize::from(length)).ok_or(Cause::CutInBody)?;
-            Ok(taker.take(sequence, Record::Memory { address: u32_at(body, 0), bytes }, rest))
+            Ok(taker.take(sequence, None, Record::Memory { address: u32_at(body, 0), bytes }, rest))
         }
         [b'S', b'W'] => {
             let body: &[u8; 8] = take(&mut rest)?;
             let record = Record::Window { start: u32_at(body, 0), length: u32_at(body, 4) };
-            Ok(taker.take(sequence, record, rest))
+            Ok(taker.take(sequence, None, record, rest))
         }
         [b'W', b'R'] => {
+            let engine = form.take_engine(&mut rest)?;
             let body: &[u8; 6] = take(&mut rest)?;
             let record = Record::Write { offset: u16_at(body, 0), value: u32_at(body, 2) };
-            Ok(taker.take(sequence, record, rest))
+            Ok(taker.take(sequence, engine, record, rest))
         }
         [b'R', b'D'] => {
+            let engine = form.take_engine(&mut rest)?;
             let body: &[u8; 2] = take(&mut rest)?;
-            Ok(taker.take(sequence, Record::Read { offset: u16_at(body, 0) }, rest))
+            Ok(taker.take(sequence, engine, Record::Read { offset: u16_at(body, 0) }, rest))
         }
         [b'S', b'T'] => {
+            let engine = form.take_engine(&mut rest)?;
             let body: &[u8; 2] = take(&mut rest)?;
-            Ok(taker.take(sequence, Record::Steps { steps: u16_at(body, 0) }, rest))
+            Ok(taker.take(sequence, engine, Record::Steps { steps: u16_at(body, 0) }, rest))
         }
         [b'A', b'R'] => {
             let body: &[u8; 16] = take(&mut rest)?;
             let (id, address) = (u32_at(body, 8), u32_at(body, 12));
             let [bits, length, size, burst, cache, prot, qos, region, ..] = *body;
             let bus = Bus { bits, length, size, burst, cache, prot, qos, region, id, address };
-            Ok(taker.take(sequence, Record::Bus(bus), rest))
+            Ok(taker.take(sequence, None, Record::Bus(bus), rest))
         }
         _ => Err(Cause::UnknownMark),
     }

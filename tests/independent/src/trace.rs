@@ -6,12 +6,13 @@ use crate::engine::{Engine, Event};
 use crate::listing::{self, Listing};
 use crate::memory::{Window, MOST_WINDOWS};
 use crate::monitor::Monitor;
-use crate::record::{self, Record, Taker};
+use crate::record::{self, Form, Record, Taker};
+use crate::two_engines;
 use std::io::{self, ErrorKind, Read, Write};
 
 /// Bytes of the program's memory.
 pub const MEMORY: usize = 32_768;
-/// Settings of a trace without a CF, and the beats that such a trace had by the older rules.
+/// Settings of a trace without CF or C2, and the beats that such a trace had by the older rules.
 pub(crate) const WIDTH: u32 = 4;
 const BEATS: u32 = 64;
 pub(crate) const OLDER_BEATS: u32 = 16;
@@ -23,9 +24,9 @@ pub trait Observer {
     /// Steps are told one by one only to an observer that looks at them.
     const LOOKS_AT_STEPS: bool = true;
 
-    /// The trace does not start with CF and got the default settings with their line.
+    /// The trace does not start with CF or C2 and got the default settings with their line.
     fn defaulted(&mut self, _replay: &Replay) {}
-    /// A record that can be read and has a good number, before it is carried out.
+    /// A record that can be read and has good numbers, before it is carried out.
     fn record(&mut self, _replay: &Replay, _record: &Record<&[u8]>) {}
     /// The same record after it was carried out.
     fn carried_out(&mut self, _replay: &Replay, _record: &Record<&[u8]>) {}
@@ -45,21 +46,25 @@ impl Observer for () {
 /// Which rules a replay follows.
 #[derive(Clone, Copy, PartialEq, Eq)]
 enum Rules {
-    /// The default settings have a line, and a CF may carry 0.
+    /// The default settings have a line, a CF may carry 0, and C2 is a CF for two engines.
     Current,
-    /// The default settings have no line, and no record may carry 0.
+    /// The default settings have no line, no record may carry 0, and C2 is an unknown mark.
     Older,
 }
 
 /// What a replay holds between records.
 pub struct Replay {
-    pub engine: Engine,
+    /// Engines 1 and 2, on one memory. Without C2 no record is for the second.
+    pub engines: [Engine; 2],
+    /// Which of them is in turn, from 0.
+    turn: usize,
     pub monitor: Monitor,
     /// The last good sequence number.
     pub last: u32,
     /// Where the next record starts in the trace.
     pub place: u64,
     rules: Rules,
+    form: Form,
     used_windows: usize,
     windows: [Window; MOST_WINDOWS],
     pub memory: [u8; MEMORY],
@@ -77,11 +82,13 @@ impl Replay {
 
     fn by(rules: Rules, beats: u32) -> Replay {
         Replay {
-            engine: Engine::fresh(WIDTH, beats),
+            engines: two_engines::fresh(WIDTH, beats),
+            turn: 0,
             monitor: Monitor::fresh(),
             last: 0,
             place: 0,
             rules,
+            form: Form::OneEngine,
             used_windows: 0,
             windows: [(0, 0); MOST_WINDOWS],
             memory: [0; MEMORY],
@@ -90,6 +97,22 @@ impl Replay {
 
     pub fn windows(&self) -> &[Window] {
         &self.windows[..self.used_windows]
+    }
+
+    /// The engine in turn: the one that the last WR, RD or ST is for, and engine 1 before any.
+    #[inline]
+    pub fn engine(&self) -> &Engine {
+        &self.engines[self.turn]
+    }
+
+    /// Puts the engine in turn that a record is for, if it carries a number. False if there is no
+    /// such engine.
+    #[inline(always)]
+    pub fn turn_to(&mut self, number: Option<u8>) -> bool {
+        let Some(number) = number else { return true };
+        let Some(place) = two_engines::place(number) else { return false };
+        self.turn = place;
+        true
     }
 
     /// Takes the records of `input`, the next bytes of a trace, and gives the bytes that are left:
@@ -129,27 +152,36 @@ impl Replay {
         observer: &mut impl Observer,
     ) -> Result<&'a [u8], u32> {
         let first = self.place == 0;
-        if first && !record::starts_with_settings(trace) {
-            self.list_default(listing, observer);
+        if first && self.rules == Rules::Current {
+            self.start(trace, listing, observer);
         }
-        // Reading: 10 (also cut short, late CF) before 11, and 11 before the record's own.
+        // Reading: 10 (also cut short, late CF or C2) before 11, 11 before 21, and 21 before the
+        // record's own.
+        let form = self.form;
         let taking = Taking { replay: self, listing, observer };
-        record::read_to(taking, trace, first).unwrap_or(Err(answer::RECORD))
+        record::read_to(taking, trace, form, first).unwrap_or(Err(answer::RECORD))
     }
 
-    /// Lists the settings that a fresh replay has. Reading: a trace that does not start with the
-    /// two bytes CF gets this line even if its first record is then refused.
+    /// Goes by how a trace starts: has it two engines, and are the settings that a fresh replay has
+    /// to be listed? Reading: a trace that does not start with the two bytes CF or C2 gets this
+    /// line even if its first record is then refused.
     #[cold]
-    fn list_default<To: Write>(&mut self, listing: &mut Listing<To>, observer: &mut impl Observer) {
-        if self.rules == Rules::Current {
+    fn start<To: Write>(
+        &mut self,
+        trace: &[u8],
+        listing: &mut Listing<To>,
+        observer: &mut impl Observer,
+    ) {
+        self.form = Form::of(trace);
+        if !record::starts_with_settings(trace) {
             listing.number(0);
-            listing.line(listing::SET, self.engine.width, self.engine.beats);
+            listing.line(listing::SET, self.engine().width, self.engine().beats);
             observer.defaulted(self);
         }
     }
 
-    /// Is this number good for this record? A CF comes first of all, so no number is too low for
-    /// it but, by the older rules, 0.
+    /// Is this number good for this record? A CF or C2 comes first of all, so no number is too low
+    /// for it but, by the older rules, 0.
     #[inline(always)]
     fn follows(&self, sequence: u32, record: &Record<&[u8]>) -> bool {
         let may_carry_zero =
@@ -174,7 +206,7 @@ impl Replay {
                 if !answer::settings_listed(width, beats) {
                     return answer::SETTINGS;
                 }
-                self.engine = Engine::fresh(width, beats);
+                self.engines = two_engines::fresh(width, beats);
                 listing.line(listing::SET, width, beats);
             }
             Record::Memory { address, bytes } => {
@@ -197,10 +229,11 @@ impl Replay {
                 listing.line(listing::WINDOW, *start, *length);
             }
             Record::Write { offset, value } => {
-                let answer = self.engine.write_admitted(u32::from(*offset), *value);
+                let engine = &mut self.engines[self.turn];
+                let answer = engine.write_admitted(u32::from(*offset), *value);
                 listing.line(listing::WRITE, u32::from(*offset), answer);
             }
-            Record::Read { offset } => match self.engine.read_admitted(u32::from(*offset)) {
+            Record::Read { offset } => match self.engine().read_admitted(u32::from(*offset)) {
                 (answer::DONE, value) => listing.line(listing::READ, u32::from(*offset), value),
                 (answer, _) => listing.line(listing::NOREAD, u32::from(*offset), answer),
             },
@@ -209,7 +242,8 @@ impl Replay {
                 if !bus.in_range() {
                     return answer::FIELD;
                 }
-                self.monitor.take(self.engine.width, &bus.clock());
+                // Both engines have the same width.
+                self.monitor.take(self.engine().width, &bus.clock());
                 // Reading: a clock in reset prints `bus 0 0`.
                 listing.line(listing::BUS, self.monitor.count(), self.monitor.lowest());
             }
@@ -228,10 +262,11 @@ impl Replay {
     ) -> u32 {
         let mut taken = 0;
         if Looking::LOOKS_AT_STEPS {
-            while taken < steps && !self.engine.idle() {
+            while taken < steps && !self.engine().idle() {
                 observer.step(self);
                 let windows = &self.windows[..self.used_windows];
-                let (answer, event) = self.engine.step(&mut self.memory, windows);
+                let engine = &mut self.engines[self.turn];
+                let (answer, event) = engine.step(&mut self.memory, windows);
                 assert_eq!(answer, answer::DONE, "a replay's engine is well formed");
                 listing.event(event);
                 observer.stepped(self, event);
@@ -240,9 +275,10 @@ impl Replay {
         } else {
             let windows = &self.windows[..self.used_windows];
             let tell = |event| listing.event(event);
-            (_, taken) = self.engine.run_telling(&mut self.memory, windows, steps, tell);
+            let engine = &mut self.engines[self.turn];
+            (_, taken) = engine.run_telling(&mut self.memory, windows, steps, tell);
         }
-        listing.line(listing::STOP, u32::from(taken), u32::from(self.engine.idle()));
+        listing.line(listing::STOP, u32::from(taken), u32::from(self.engine().idle()));
         answer::DONE
     }
 }
@@ -258,11 +294,21 @@ impl<'a, To: Write, Looking: Observer> Taker<'a> for Taking<'_, To, Looking> {
     type Given = Result<&'a [u8], u32>;
 
     #[inline(always)]
-    fn take(self, sequence: u32, record: Record<&'a [u8]>, behind: &'a [u8]) -> Self::Given {
+    fn take(
+        self,
+        sequence: u32,
+        engine: Option<u8>,
+        record: Record<&'a [u8]>,
+        behind: &'a [u8],
+    ) -> Self::Given {
         let Taking { replay, listing, observer } = self;
         // Reading: a WR or RD with an old number is 11 too, and ends the replay.
         if !replay.follows(sequence, &record) {
             return Err(answer::SEQUENCE);
+        }
+        // Reading: 21 ends the replay for a WR or RD too.
+        if !replay.turn_to(engine) {
+            return Err(answer::ENGINE);
         }
         observer.record(replay, &record);
         listing.number(sequence);

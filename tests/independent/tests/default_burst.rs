@@ -1,11 +1,13 @@
 // Tests of the default burst: RULES.md, "Trace and listing". What a trace means that does not start
-// with CF, a CF that carries 0, and the converter of older traces: listings worked out by hand from
-// the rules, whole and from streams cut in all places, and how the listings of any traces go
+// with CF or C2, a CF that carries 0, and the converter of older traces: listings worked out by hand
+// from the rules, whole and from streams cut in all places, and how the listings of any traces go
 // together. The rules before are in `older`.
 
 mod common;
 
-use common::{damage, descriptor, some_trace, Pieces, Trace, HEADER, QUIET, VALID};
+use common::{
+    damage, descriptor, from_all_streams, some_trace, Pieces, Trace, HEADER, QUIET, VALID,
+};
 use independent::convert::convert_stream;
 use independent::monitor::Clock;
 use independent::older;
@@ -17,37 +19,6 @@ use std::io::{self, Read, Write};
 
 /// What the converter puts before an older trace.
 const PUT_BEFORE: [u8; 10] = [b'C', b'F', 0, 0, 0, 0, 4, 0, 16, 0];
-
-// ---- Streams ----
-
-/// Gives one byte a read, and is interrupted before each.
-struct Slow<'a> {
-    rest: &'a [u8],
-    interrupted: bool,
-}
-
-impl Read for Slow<'_> {
-    fn read(&mut self, room: &mut [u8]) -> io::Result<usize> {
-        self.interrupted = !self.interrupted;
-        if self.interrupted {
-            return Err(io::ErrorKind::Interrupted.into());
-        }
-        let count = room.len().min(1);
-        self.rest.read(&mut room[..count])
-    }
-}
-
-/// Gives the bytes of a trace to `take` from streams: cut in two at all places, byte by byte, and
-/// in pieces of any length.
-fn from_all_streams(trace: &[u8], mut take: impl FnMut(&mut dyn Read)) {
-    for at in 0..=trace.len() {
-        take(&mut trace[..at].chain(&trace[at..]));
-    }
-    take(&mut Slow { rest: trace, interrupted: false });
-    for most in [1, 2, 3, 12, 100] {
-        take(&mut Pieces { rest: trace, most, random: Random::new(most.into(), 7) });
-    }
-}
 
 // ---- Listings ----
 
@@ -188,8 +159,9 @@ fn the_line_comes_before_the_first_record_is_refused() {
     let refused = |trace: &Trace, answer: u32| {
         lists(trace, &format!("0 set 4 64\n0 bad {answer} 0\n"));
     };
-    // Marks that are not CF; C2 and EX are unknown.
-    for mark in [b"cf", b"Cf", b"cF", b"FC", b"CC", b"FF", b"C ", b" F", b"C2", b"EX", b"\0\0"] {
+    // Marks that are not CF or C2; EX is unknown.
+    let others = [b"cf", b"Cf", b"cF", b"FC", b"CC", b"FF", b"C ", b" F", b"c2", b"2C", b"EX"];
+    for mark in others.into_iter().chain([b"\0\0"]) {
         refused(&Trace::new().raw(mark), 10);
         refused(&Trace::new().raw(mark).raw(&[1; 30]), 10);
         // A CF behind it does not come first.
@@ -311,7 +283,7 @@ struct Looker(Vec<&'static str>);
 
 impl Observer for Looker {
     fn defaulted(&mut self, replay: &Replay) {
-        assert_eq!((replay.engine.width, replay.engine.beats), (4, 64));
+        assert_eq!((replay.engine().width, replay.engine().beats), (4, 64));
         assert_eq!((replay.last, replay.place), (0, 0));
         self.0.push("default");
     }
@@ -337,6 +309,8 @@ fn an_observer_is_told_of_the_default_before_the_first_record() {
     assert_eq!(told(&Trace::new().raw(b"C")), ["default", "refused"]);
     assert_eq!(told(&Trace::new().raw(b"CF")), ["refused"]);
     assert_eq!(told(&Trace::new().cf(0, 4, 64).rd(1, 8)), ["record", "record"]);
+    assert_eq!(told(&Trace::new().raw(b"C2")), ["refused"]);
+    assert_eq!(told(&Trace::new().c2(0, 4, 64).rd_of(1, 1, 8)), ["record", "record"]);
     assert!(told(&Trace::new()).is_empty());
 }
 
@@ -352,6 +326,14 @@ fn older_rules() {
     lists_older(&Trace::new().raw(b"CF"), "0 bad 10 0\n");
     lists_older(&Trace::new().cf(1, 5, 5), "0 bad 1 0\n");
     lists_older(&Trace::new().rd(5, 8).cf(6, 4, 16), "5 read 8 0\n5 bad 10 8\n");
+    // C2 is an unknown mark, first or not.
+    for number in [0, 1] {
+        lists_older(&Trace::new().c2(number, 4, 16), "0 bad 10 0\n");
+        lists_older(&Trace::new().c2(number, 5, 5).rd_of(2, 1, 8), "0 bad 10 0\n");
+    }
+    lists_older(&Trace::new().raw(b"C2"), "0 bad 10 0\n");
+    lists_older(&Trace::new().rd(5, 8).c2(6, 4, 16), "5 read 8 0\n5 bad 10 8\n");
+    lists_older(&Trace::new().cf(1, 4, 16).c2(2, 4, 16), "1 set 4 16\n1 bad 10 10\n");
     // No record may carry 0.
     lists_older(&Trace::new().cf(0, 4, 16).rd(1, 8), "0 bad 11 0\n");
     lists_older(&Trace::new().cf(0, 5, 5), "0 bad 11 0\n");
@@ -385,17 +367,17 @@ fn an_older_trace_gets_the_ten_bytes() {
     converts(b"C", b"CF\0\0\0\0\x04\0\x10\0C");
     converts(b"F", b"CF\0\0\0\0\x04\0\x10\0F");
     converts(b"RD\x01\0\0\0\x08\0", b"CF\0\0\0\0\x04\0\x10\0RD\x01\0\0\0\x08\0");
-    // Sound or not, with a CF behind, and with marks that are close to it.
-    let no_cf: [&[u8]; 8] =
-        [b"FC", b"cf", b"CCF", b" CF", b"C2\x01\0\0\0\x04\0\x10\0", b"RDCF", b"\0", b"no trace"];
-    for trace in no_cf {
+    // Sound or not, with a CF or C2 behind, and with marks that are close to these.
+    let no_cf: [&[u8]; 7] = [b"FC", b"cf", b"CCF", b" CF", b"RDCF", b"\0", b"no trace"];
+    let no_c2: [&[u8]; 5] = [b"2C", b"c2", b"CC2", b" C2", b"RDC2"];
+    for trace in no_cf.into_iter().chain(no_c2) {
         converts(trace, &[&PUT_BEFORE, trace].concat());
     }
     assert_eq!(PUT_BEFORE.to_vec(), Trace::new().cf(0, 4, 16).0);
 }
 
 #[test]
-fn a_trace_that_starts_with_cf_is_copied() {
+fn a_trace_that_starts_with_cf_or_c2_is_copied() {
     let traces = [
         Trace::new().cf(1, 4, 16).rd(2, 8),
         Trace::new().cf(0, 4, 16),
@@ -404,6 +386,10 @@ fn a_trace_that_starts_with_cf_is_copied() {
         Trace::new().cf(0, 0, 0),
         Trace::new().cf(1, 5, 7).raw(b"no record"),
         Trace::new().cf(1, 4, 16).cf(2, 4, 16),
+        // C2 too.
+        Trace::new().c2(1, 4, 16).rd_of(2, 1, 8),
+        Trace::new().c2(0, 0, 0).raw(b"no record"),
+        Trace::new().c2(9, 4, 16).cf(2, 4, 16),
     ];
     for trace in traces {
         for length in 2..=trace.0.len() {
@@ -429,10 +415,10 @@ fn a_converted_trace_lists_as_before() {
 #[test]
 fn a_long_trace_is_converted_in_pieces() {
     let mut random = Random::new(7, 1);
-    for start in [&b"CF"[..], b"MM", b"C"] {
+    for start in [&b"CF"[..], b"C2", b"MM", b"C"] {
         let trace = [start, b" ", &random.bytes(300_000)].concat();
-        let expected =
-            if start == b"CF" { trace.clone() } else { [&PUT_BEFORE[..], &trace].concat() };
+        let copied = start == b"CF" || start == b"C2";
+        let expected = if copied { trace.clone() } else { [&PUT_BEFORE[..], &trace].concat() };
         for most in [1, 1000, 1_000_000] {
             let pieces = Pieces { rest: &trace, most, random: Random::new(7, most.into()) };
             let mut output = Vec::new();
@@ -508,7 +494,7 @@ impl Write for Ahead<'_> {
 
 #[test]
 fn the_converter_holds_little_of_a_trace() {
-    for start in [&b"CF"[..], b"RD"] {
+    for start in [&b"CF"[..], b"C2", b"RD"] {
         let ahead = Cell::new(0);
         let input = start.chain(Ahead(&ahead).take(20_000_000));
         convert_stream(input, Ahead(&ahead)).unwrap();
@@ -517,12 +503,17 @@ fn the_converter_holds_little_of_a_trace() {
 
 // ---- Any traces ----
 
+/// Does a trace start with CF or C2?
+fn starts_with_settings(trace: &[u8]) -> bool {
+    trace.starts_with(b"CF") || trace.starts_with(b"C2")
+}
+
 /// A trace of any sort: good or damaged records, any bytes, and first records of every kind that
 /// carry 0 or are cut short.
 fn any_trace(random: &mut Random) -> Vec<u8> {
     let length = random.below(30);
     let behind = some_trace(random).0;
-    let mut trace = match random.below(8) {
+    let mut trace = match random.below(9) {
         0 => random.bytes(length),
         1 => [b"CF", &random.bytes(length)[..]].concat(),
         2 => {
@@ -531,6 +522,7 @@ fn any_trace(random: &mut Random) -> Vec<u8> {
             [&first.0[..], &behind].concat()
         }
         3 => Trace::new().cf(random.below(3), 4, random.pick(&[0, 16, 64])).raw(&behind).0,
+        4 => Trace::new().c2(random.below(3), 4, 16).raw(&behind).0,
         _ => behind,
     };
     if random.one_in(3) && !trace.is_empty() {
@@ -566,11 +558,17 @@ fn any_converted_trace_lists_as_before() {
     let mut random = Random::new(7, 2);
     // Traces by how they start and end, and those in which 64 beats make another listing.
     let (mut sound, mut bad, mut empty, mut copied, mut with_0, mut other) = (0, 0, 0, 0, 0, 0);
+    let mut two_engines = 0;
     for _ in 0..8000 {
         let trace = any_trace(&mut random);
         let before = list_older(&trace);
         let after = list(&convert(&trace));
-        if !trace.starts_with(b"CF") {
+        if trace.starts_with(b"C2") {
+            // By the older rules the mark was unknown.
+            assert_eq!(before, format!("{HEADER}0 bad 10 0\n"));
+            assert_eq!(after, list(&trace), "{trace:?}");
+            two_engines += 1;
+        } else if !trace.starts_with(b"CF") {
             let expected = with_line("0 set 4 16\n", &with_position_moved(&before, 10));
             assert_eq!(after, expected, "{trace:?}");
             let now = list(&trace);
@@ -590,7 +588,7 @@ fn any_converted_trace_lists_as_before() {
             copied += 1;
         }
     }
-    let counts = [sound, bad, empty, copied, with_0, other];
+    let counts = [sound, bad, empty, copied, with_0, other, two_engines];
     assert!(counts.iter().all(|&count| count > 100), "{counts:?}");
 }
 
@@ -599,7 +597,7 @@ fn any_default_is_a_cf_with_these_settings() {
     let mut random = Random::new(7, 3);
     for _ in 0..8000 {
         let trace = any_trace(&mut random);
-        if !trace.is_empty() && !trace.starts_with(b"CF") {
+        if !trace.is_empty() && !starts_with_settings(&trace) {
             let behind = list(&Trace::new().cf(0, 4, 64).raw(&trace).0);
             assert_eq!(list(&trace), with_position_moved(&behind, -10), "{trace:?}");
         }
@@ -613,7 +611,7 @@ fn converted_twice_is_converted_once() {
         let trace = any_trace(&mut random);
         let once = convert(&trace);
         let expected =
-            if trace.starts_with(b"CF") { trace } else { [&PUT_BEFORE[..], &trace].concat() };
+            if starts_with_settings(&trace) { trace } else { [&PUT_BEFORE[..], &trace].concat() };
         assert_eq!(once, expected);
         assert_eq!(convert(&once), once);
     }

@@ -39,6 +39,27 @@ fn sound_bad_and_empty_input() {
 }
 
 #[test]
+fn two_engines() {
+    let trace = Trace::new().c2(0, 8, 2).wr_of(1, 2, 24, 7).rd_of(2, 1, 24).rd_of(3, 2, 24).0;
+    let output = on_standard_input(&[], &trace);
+    assert_eq!(output.status.code(), Some(0));
+    let lines = "0 set 8 2\n1 write 24 0\n2 read 24 0\n3 read 24 7\n";
+    let expected = format!("seq event first second\n{lines}");
+    assert_eq!(String::from_utf8(output.stdout).unwrap(), expected);
+    let output = on_standard_input(&["older"], &trace);
+    assert_eq!(output.status.code(), Some(1));
+    assert_eq!(output.stdout, b"seq event first second\n0 bad 10 0\n");
+    let output = on_standard_input(&["convert"], &trace);
+    assert_eq!(output.status.code(), Some(0));
+    assert_eq!(output.stdout, trace);
+    // C2 10 bytes, WR 13.
+    let trace = Trace(trace[..23].to_vec()).rd_of(2, 3, 24).0;
+    let output = on_standard_input(&[], &trace);
+    assert_eq!(output.status.code(), Some(1));
+    assert_eq!(output.stdout, b"seq event first second\n0 set 8 2\n1 write 24 0\n1 bad 21 23\n");
+}
+
+#[test]
 fn a_named_file_and_an_unreadable_one() {
     let name = file("named", &Trace::new().cf(3, 8, 2).0);
     let output = Command::new(PROGRAM).arg(&name).output().unwrap();
@@ -81,6 +102,7 @@ fn standard_input_converted() {
         (&b""[..], &b"CF\0\0\0\0\x04\0\x10\0"[..]),
         (b"C", b"CF\0\0\0\0\x04\0\x10\0C"),
         (b"CF", b"CF"),
+        (b"C2", b"C2"),
         (b"no trace", b"CF\0\0\0\0\x04\0\x10\0no trace"),
     ] {
         let output = on_standard_input(&["convert"], bytes);

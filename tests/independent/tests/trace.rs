@@ -3,10 +3,10 @@
 
 mod common;
 
-use common::{damage, descriptor, some_trace, Pieces, Trace, HEADER, VALID};
+use common::{damage, descriptor, slow_listing, some_trace, Pieces, Trace, HEADER, VALID};
 use independent::answer;
-use independent::engine::{Engine, Event, Phase};
-use independent::monitor::{Clock, Monitor};
+use independent::engine::Event;
+use independent::monitor::Clock;
 use independent::older;
 use independent::record::Record;
 use independent::trace::{replay, replay_before, replay_stream, Observer, Replay};
@@ -26,9 +26,9 @@ fn listing(trace: &Trace) -> (String, bool) {
     (lines, sound)
 }
 
-/// A trace that is not empty and does not start with CF has a line for W=4, L=64.
+/// A trace that is not empty and does not start with CF or C2 has a line for W=4, L=64.
 fn default_line(trace: &[u8]) -> &'static str {
-    if trace.is_empty() || trace.starts_with(b"CF") {
+    if trace.is_empty() || trace.starts_with(b"CF") || trace.starts_with(b"C2") {
         ""
     } else {
         "0 set 4 64\n"
@@ -413,100 +413,6 @@ fn random_bytes_behind_good_marks_never_panic() {
     }
 }
 
-/// The replay again through the public interface, with the standard library's formatting: a
-/// check of the printing and of the ST loop. The beats are those without a CF.
-fn slow_listing(bytes: &[u8], mut beats: u32, default_line: &str) -> String {
-    let mut text = format!("{HEADER}{default_line}");
-    let mut width = 4;
-    let mut engine = Engine::fresh(width, beats);
-    let mut monitor = Monitor::fresh();
-    let mut memory = vec![0u8; 32768];
-    let mut windows = Vec::new();
-    let half = |at: usize| u32::from(u16::from_le_bytes(bytes[at..at + 2].try_into().unwrap()));
-    let full = |at: usize| u32::from_le_bytes(bytes[at..at + 4].try_into().unwrap());
-    let mut at = 0;
-    while at < bytes.len() {
-        let n = full(at + 2);
-        let body = at + 6;
-        at = match &bytes[at..at + 2] {
-            b"CF" => {
-                (width, beats) = (half(body), half(body + 2));
-                engine = Engine::fresh(width, beats);
-                text += &format!("{n} set {width} {beats}\n");
-                body + 4
-            }
-            b"MM" => {
-                let (address, length) = (full(body) as usize, half(body + 4) as usize);
-                memory[address..address + length]
-                    .copy_from_slice(&bytes[body + 6..body + 6 + length]);
-                text += &format!("{n} memory {address} {length}\n");
-                body + 6 + length
-            }
-            b"SW" => {
-                windows.push((full(body), full(body + 4)));
-                text += &format!("{n} window {} {}\n", full(body), full(body + 4));
-                body + 8
-            }
-            b"WR" => {
-                let answer = engine.write(half(body), full(body + 2));
-                text += &format!("{n} write {} {answer}\n", half(body));
-                body + 6
-            }
-            b"RD" => {
-                let (answer, value) = engine.read(half(body));
-                text += &match answer {
-                    0 => format!("{n} read {} {value}\n", half(body)),
-                    _ => format!("{n} noread {} {answer}\n", half(body)),
-                };
-                body + 2
-            }
-            b"ST" => {
-                let mut steps = 0;
-                while steps < half(body) && engine.phase != Phase::Idle {
-                    let (answer, event) = engine.step(&mut memory, &windows);
-                    assert_eq!(answer, 0);
-                    steps += 1;
-                    text += &match event {
-                        Event::None => panic!("a busy engine did nothing"),
-                        Event::Fetch { current } => format!("{n} fetch {current} 0\n"),
-                        Event::Move { start, bytes } => format!("{n} move {start} {bytes}\n"),
-                        Event::Fault { destination, bit } => {
-                            format!("{n} fault {destination} {bit}\n")
-                        }
-                        Event::Update { current, word } => format!("{n} update {current} {word}\n"),
-                        Event::Halt { current, bit } => format!("{n} halt {current} {bit}\n"),
-                    };
-                }
-                let idle = engine.read(4).1 >> 1 & 1;
-                text += &format!("{n} stop {steps} {idle}\n");
-                body + 2
-            }
-            b"AR" => {
-                let clock = Clock {
-                    reset_high: bytes[body] & 1 != 0,
-                    valid: bytes[body] & 2 != 0,
-                    ready: bytes[body] & 4 != 0,
-                    length: bytes[body + 1].into(),
-                    size: bytes[body + 2].into(),
-                    burst: bytes[body + 3].into(),
-                    cache: bytes[body + 4].into(),
-                    prot: bytes[body + 5].into(),
-                    qos: bytes[body + 6].into(),
-                    region: bytes[body + 7].into(),
-                    id: full(body + 8),
-                    address: full(body + 12),
-                };
-                assert_eq!(monitor.clock(width, beats, &clock), 0);
-                let lowest = (0..64).find(|n| monitor.flags >> n & 1 == 1).unwrap_or(0);
-                text += &format!("{n} bus {} {lowest}\n", monitor.count());
-                body + 16
-            }
-            _ => panic!(),
-        };
-    }
-    text
-}
-
 #[test]
 fn good_traces_list_as_the_slow_listing() {
     let mut random = Random::new(9, 0);
@@ -650,7 +556,7 @@ impl Observer for Looker {
     }
 
     fn step(&mut self, replay: &Replay) {
-        assert!(!self.open && !replay.engine.idle());
+        assert!(!self.open && !replay.engine().idle());
         self.open = true;
     }
 

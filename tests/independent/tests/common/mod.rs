@@ -1,11 +1,11 @@
-// Helpers of the tests: a maker of traces, streams, clocks, and engines with the memory and windows
-// lent to them.
+// Helpers of the tests: a maker of traces, their slow listing, streams, clocks, and engines with the
+// memory and windows lent to them.
 // Records as in RULES.md, "Trace and listing".
 #![allow(dead_code)]
 
-use independent::engine::{Engine, Outcome, Phase, Transfer};
+use independent::engine::{Engine, Event, Outcome, Phase, Transfer};
 use independent::memory::Window;
-use independent::monitor::Clock;
+use independent::monitor::{Clock, Monitor};
 use independent::record::{Bus, Record};
 use shared::random::Random;
 use shared::record::encode;
@@ -82,6 +82,31 @@ impl Trace {
 
     pub fn ar(self, sequence: u32, clock: &Clock) -> Trace {
         self.put(sequence, Record::Bus(Bus::from(clock)))
+    }
+}
+
+/// Records of a trace with two engines.
+impl Trace {
+    fn put_of(self, mark: &[u8; 2], sequence: u32, engine: u8) -> Trace {
+        self.raw(mark).raw(&sequence.to_le_bytes()).raw(&[engine])
+    }
+
+    pub fn c2(self, sequence: u32, width: u16, beats: u16) -> Trace {
+        let trace = self.raw(b"C2").raw(&sequence.to_le_bytes());
+        trace.raw(&width.to_le_bytes()).raw(&beats.to_le_bytes())
+    }
+
+    pub fn wr_of(self, sequence: u32, engine: u8, offset: u16, value: u32) -> Trace {
+        let trace = self.put_of(b"WR", sequence, engine);
+        trace.raw(&offset.to_le_bytes()).raw(&value.to_le_bytes())
+    }
+
+    pub fn rd_of(self, sequence: u32, engine: u8, offset: u16) -> Trace {
+        self.put_of(b"RD", sequence, engine).raw(&offset.to_le_bytes())
+    }
+
+    pub fn st_of(self, sequence: u32, engine: u8, steps: u16) -> Trace {
+        self.put_of(b"ST", sequence, engine).raw(&steps.to_le_bytes())
     }
 }
 
@@ -165,6 +190,108 @@ pub fn some_trace(random: &mut Random) -> Trace {
     trace
 }
 
+/// The replay again through the public interface, with the standard library's formatting: a
+/// check of the printing and of the ST loop. The beats are those without CF or C2.
+pub fn slow_listing(bytes: &[u8], mut beats: u32, default_line: &str) -> String {
+    let mut text = format!("{HEADER}{default_line}");
+    let mut width = 4;
+    let two_engines = bytes.starts_with(b"C2");
+    let mut engines = [Engine::fresh(width, beats), Engine::fresh(width, beats)];
+    let mut monitor = Monitor::fresh();
+    let mut memory = vec![0u8; 32768];
+    let mut windows = Vec::new();
+    let half = |at: usize| u32::from(u16::from_le_bytes(bytes[at..at + 2].try_into().unwrap()));
+    let full = |at: usize| u32::from_le_bytes(bytes[at..at + 4].try_into().unwrap());
+    let mut at = 0;
+    while at < bytes.len() {
+        let n = full(at + 2);
+        let mark: &[u8; 2] = bytes[at..at + 2].try_into().unwrap();
+        let mut body = at + 6;
+        let mut number = 1;
+        if two_engines && [b"WR", b"RD", b"ST"].contains(&mark) {
+            number = usize::from(bytes[body]);
+            body += 1;
+        }
+        let engine = &mut engines[number - 1];
+        at = match mark {
+            b"CF" | b"C2" => {
+                (width, beats) = (half(body), half(body + 2));
+                engines = [Engine::fresh(width, beats), Engine::fresh(width, beats)];
+                text += &format!("{n} set {width} {beats}\n");
+                body + 4
+            }
+            b"MM" => {
+                let (address, length) = (full(body) as usize, half(body + 4) as usize);
+                memory[address..address + length]
+                    .copy_from_slice(&bytes[body + 6..body + 6 + length]);
+                text += &format!("{n} memory {address} {length}\n");
+                body + 6 + length
+            }
+            b"SW" => {
+                windows.push((full(body), full(body + 4)));
+                text += &format!("{n} window {} {}\n", full(body), full(body + 4));
+                body + 8
+            }
+            b"WR" => {
+                let answer = engine.write(half(body), full(body + 2));
+                text += &format!("{n} write {} {answer}\n", half(body));
+                body + 6
+            }
+            b"RD" => {
+                let (answer, value) = engine.read(half(body));
+                text += &match answer {
+                    0 => format!("{n} read {} {value}\n", half(body)),
+                    _ => format!("{n} noread {} {answer}\n", half(body)),
+                };
+                body + 2
+            }
+            b"ST" => {
+                let mut steps = 0;
+                while steps < half(body) && engine.phase != Phase::Idle {
+                    let (answer, event) = engine.step(&mut memory, &windows);
+                    assert_eq!(answer, 0);
+                    steps += 1;
+                    text += &match event {
+                        Event::None => panic!("a busy engine did nothing"),
+                        Event::Fetch { current } => format!("{n} fetch {current} 0\n"),
+                        Event::Move { start, bytes } => format!("{n} move {start} {bytes}\n"),
+                        Event::Fault { destination, bit } => {
+                            format!("{n} fault {destination} {bit}\n")
+                        }
+                        Event::Update { current, word } => format!("{n} update {current} {word}\n"),
+                        Event::Halt { current, bit } => format!("{n} halt {current} {bit}\n"),
+                    };
+                }
+                let idle = engine.read(4).1 >> 1 & 1;
+                text += &format!("{n} stop {steps} {idle}\n");
+                body + 2
+            }
+            b"AR" => {
+                let clock = Clock {
+                    reset_high: bytes[body] & 1 != 0,
+                    valid: bytes[body] & 2 != 0,
+                    ready: bytes[body] & 4 != 0,
+                    length: bytes[body + 1].into(),
+                    size: bytes[body + 2].into(),
+                    burst: bytes[body + 3].into(),
+                    cache: bytes[body + 4].into(),
+                    prot: bytes[body + 5].into(),
+                    qos: bytes[body + 6].into(),
+                    region: bytes[body + 7].into(),
+                    id: full(body + 8),
+                    address: full(body + 12),
+                };
+                assert_eq!(monitor.clock(width, beats, &clock), 0);
+                let lowest = (0..64).find(|n| monitor.flags >> n & 1 == 1).unwrap_or(0);
+                text += &format!("{n} bus {} {lowest}\n", monitor.count());
+                body + 16
+            }
+            _ => panic!(),
+        };
+    }
+    text
+}
+
 /// Changes or cuts a trace that is not empty, in one to three places.
 pub fn damage(random: &mut Random, trace: &mut Vec<u8>) {
     for _ in 0..1 + random.below(3) {
@@ -193,6 +320,35 @@ impl Read for Pieces<'_> {
             (1 + self.random.below(self.most) as usize).min(self.rest.len()).min(room.len());
         room[..count].copy_from_slice(self.rest.split_off(..count).unwrap());
         Ok(count)
+    }
+}
+
+/// Gives one byte a read, and is interrupted before each.
+struct Slow<'a> {
+    rest: &'a [u8],
+    interrupted: bool,
+}
+
+impl Read for Slow<'_> {
+    fn read(&mut self, room: &mut [u8]) -> io::Result<usize> {
+        self.interrupted = !self.interrupted;
+        if self.interrupted {
+            return Err(io::ErrorKind::Interrupted.into());
+        }
+        let count = room.len().min(1);
+        self.rest.read(&mut room[..count])
+    }
+}
+
+/// Gives the bytes of a trace to `take` from streams: cut in two at all places, byte by byte, and
+/// in pieces of any length.
+pub fn from_all_streams(trace: &[u8], mut take: impl FnMut(&mut dyn Read)) {
+    for at in 0..=trace.len() {
+        take(&mut trace[..at].chain(&trace[at..]));
+    }
+    take(&mut Slow { rest: trace, interrupted: false });
+    for most in [1, 2, 3, 12, 100] {
+        take(&mut Pieces { rest: trace, most, random: Random::new(most.into(), 7) });
     }
 }
 

@@ -3,6 +3,7 @@
 
 use crate::damage::{BAD_SETTINGS, UNKNOWN_MARKS};
 use crate::maker::{Record, MEMORY};
+use crate::pair_cases;
 use independent::engine::Engine;
 use independent::record::Bus;
 use shared::bursts::full_piece;
@@ -186,6 +187,7 @@ fn cases() -> Vec<Vec<u8>> {
         all.extend(BEATS.map(|beats| queues(width, beats)));
     }
     all.extend(large());
+    all.extend(pair_cases::cases());
     all
 }
 
@@ -229,10 +231,11 @@ fn zero_numbers() -> Vec<Vec<u8>> {
     all
 }
 
-/// First bytes that are nearly CF, alone and before a record's other bytes.
+/// First bytes that are nearly CF or C2, alone and before a record's other bytes.
 fn first_marks() -> Vec<Vec<u8>> {
     let mut all: Vec<Vec<u8>> = [b"F", b"\n", b"c"].map(|bytes| bytes.to_vec()).into();
-    let near: [&[u8; 2]; 8] = [b"CC", b"FF", b"Cf", b"cF", b"C2", b"C\0", b"\0C", b" C"];
+    let near: [&[u8; 2]; 11] =
+        [b"CC", b"FF", b"Cf", b"cF", b"C\0", b"\0C", b" C", b"c2", b"2C", b"C1", b"C\x02"];
     for mark in near.iter().chain(&UNKNOWN_MARKS) {
         let mut bytes =
             numbered(&[Record::Settings { width: 4, beats: 16 }, Record::Read { offset: 4 }]);
@@ -405,7 +408,7 @@ fn large() -> [Vec<u8>; 3] {
 pub fn all() -> Vec<(&'static str, Vec<u8>)> {
     let mut random = Random::new(0, 0);
     let mut all: Vec<_> = cases().into_iter().map(|bytes| ("case", bytes)).collect();
-    for base in [whole_case(), each_mark(), chain()] {
+    for base in [whole_case(), each_mark(), chain(), pair_cases::each_mark()] {
         for end in 0..=base.len() {
             all.push(("prefix", base[..end].to_vec()));
         }

@@ -63,6 +63,17 @@ pub fn chain(maker: &mut Maker) {
     }
 }
 
+/// Builds a chain, starts it and runs none of it; gives its places.
+pub fn begin(maker: &mut Maker) -> Vec<u32> {
+    ready(maker, true);
+    let length = maker.random.between(1, 4);
+    let places = places(maker, length);
+    build(maker, &places);
+    maker.write(CURDESC, places[0]);
+    maker.write(TAILDESC, places[places.len() - 1]);
+    places
+}
+
 /// Distinct places, in any order.
 pub fn places(maker: &mut Maker, length: u32) -> Vec<u32> {
     let mut places: Vec<u32> = Vec::new();
@@ -197,7 +208,7 @@ fn sick_status(maker: &mut Maker) {
         window(maker);
         return;
     }
-    let status = maker.replay.engine.current + 0x1c;
+    let status = maker.replay.engine().current + 0x1c;
     // Over one end of the word alone, so the other bytes can still be seen: an update that
     // fails leaves them as they were.
     let (start, length) = maker.random.pick(&[

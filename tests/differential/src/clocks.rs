@@ -76,7 +76,7 @@ fn any(maker: &mut Maker) {
 
 /// The largest size that fits the width.
 fn widest(maker: &Maker) -> u32 {
-    maker.replay.engine.width.trailing_zeros()
+    maker.replay.engine().width.trailing_zeros()
 }
 
 /// A clock out of reset with valid high that raises none of 37 to 44.

@@ -18,6 +18,9 @@ pub const CONVERSIONS: &[&str] = &[
     "copied by the converter",
     "copied, its CF of number 0",
     "copied, its CF cut short",
+    "copied, its C2 of number 0",
+    "copied, its C2 of a number above 0",
+    "copied, its C2 cut short",
 ];
 
 const HEADER: &str = "seq event first second\n";
@@ -26,7 +29,7 @@ const DEFAULT: &str = "0 set 4 64\n";
 /// The line of the record that the converter puts before a trace, and the bytes of this record.
 const PUT: &str = "0 set 4 16\n";
 const PUT_BYTES: u64 = 10;
-/// Bytes of a whole CF.
+/// Bytes of a whole CF or C2.
 const WHOLE: usize = 10;
 
 /// Compares what the converter makes of a trace, whose own `listing` was compared before.
@@ -43,6 +46,9 @@ pub fn compare(
     expect(programs.convert, trace, at, &converted, differs)?;
     let mut before = Vec::new();
     let sound = older::replay(trace, &mut before);
+    if trace.starts_with(b"C2") {
+        return copied_with_two_engines(trace, &converted, &before, coverage);
+    }
     if trace.starts_with(b"CF") {
         // What is copied is converted twice already, and its listing is the trace's own.
         return copied(trace, &converted, listing, &before, coverage);
@@ -87,6 +93,30 @@ fn copied(
     let expected = if zero { refused.as_bytes() } else { listing };
     if before != expected {
         let what = first_difference(("older", before), ("expected", expected));
+        return Err(format!("of the trace by the older rules, {what}"));
+    }
+    Ok(())
+}
+
+/// A trace that starts with C2: it is copied, and by the older rules C2 is an unknown mark.
+fn copied_with_two_engines(
+    trace: &[u8],
+    converted: &[u8],
+    before: &[u8],
+    coverage: &mut Counts,
+) -> Result<(), String> {
+    coverage.see("copied by the converter");
+    coverage.see(match trace.get(2..WHOLE) {
+        None => "copied, its C2 cut short",
+        Some([0, 0, 0, 0, ..]) => "copied, its C2 of number 0",
+        Some(_) => "copied, its C2 of a number above 0",
+    });
+    if converted != trace {
+        return Err("both converters change a trace that starts with C2".to_string());
+    }
+    let expected = format!("{HEADER}0 bad 10 0\n");
+    if before != expected.as_bytes() {
+        let what = first_difference(("older", before), ("expected", expected.as_bytes()));
         return Err(format!("of the trace by the older rules, {what}"));
     }
     Ok(())

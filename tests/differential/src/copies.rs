@@ -86,7 +86,7 @@ pub fn peek(maker: &mut Maker, address: u32) {
     if !maker.sound(place, 32) || (address + 4 > place && address < place + 32) {
         return;
     }
-    if maker.busy() || maker.in_error() || kept(&maker.replay.engine) != 0 {
+    if maker.busy() || maker.in_error() || kept(maker.replay.engine()) != 0 {
         maker.write(CDMACR, RESET);
     }
     let fill = maker.random.u32();

@@ -7,6 +7,7 @@ use shared::key_hole_bursts::BURSTS;
 
 use crate::conversion::CONVERSIONS;
 use crate::families::FAMILIES;
+use crate::observe_pairs;
 use crate::situations::SITUATIONS;
 
 /// The words of a listing's lines.
@@ -16,7 +17,7 @@ pub const WORDS: [&str; 14] = [
 ];
 
 const NUMBERED: &Groups = &[
-    ("answer", &[0, 1, 3, 4, 5, 6, 10, 11, 12, 13]),
+    ("answer", &[0, 1, 3, 4, 5, 6, 10, 11, 12, 13, 21]),
     ("fault bit", &[5, 6]),
     ("halt bit", &[8, 9, 10]),
     (CDMACR_BITS.0[1], CDMACR_BITS.1),
@@ -29,8 +30,11 @@ const NUMBERED: &Groups = &[
 ];
 
 pub fn new() -> Counts {
+    let of_pairs = [observe_pairs::RECORDS, observe_pairs::ENGINES, observe_pairs::MEETINGS];
     let names = [&WORDS[..], SITUATIONS, CONVERSIONS, WRITES, BURSTS, RUNS, &FAMILIES];
-    Counts::new(NUMBERED, names.into_iter().flatten().copied())
+    let names = names.into_iter().chain(of_pairs);
+    let groups = [NUMBERED, observe_pairs::NUMBERED].concat();
+    Counts::new(&groups, names.flatten().copied())
 }
 
 /// Prints the table and gives the number of its zeros.
@@ -44,5 +48,9 @@ pub fn print(counts: &Counts) -> usize {
         + counts.print_list("key hole bits written", WRITES)
         + counts.print_list("bursts with a fixed side", BURSTS)
         + counts.print_list("runs with a fixed side", RUNS)
+        + counts.print_numbers(observe_pairs::NUMBERED)
+        + counts.print_list("records of traces with two engines", observe_pairs::RECORDS)
+        + counts.print_list("two engines", observe_pairs::ENGINES)
+        + counts.print_list("bytes of two engines", observe_pairs::MEETINGS)
         + counts.print_list("families of traces", &FAMILIES)
 }

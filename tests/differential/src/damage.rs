@@ -4,12 +4,14 @@ use crate::clocks;
 use crate::maker::{Maker, Record, MEMORY};
 use crate::pokes::BAD_OFFSETS;
 use independent::memory::MOST_WINDOWS;
-use independent::record::read;
+use independent::record::{read, Form};
 use shared::random::Random;
-use shared::record::encode;
+use shared::record::{encode, encode_for};
 
 pub const UNKNOWN_MARKS: [&[u8; 2]; 10] =
     [b"mm", b"Mm", b"FC", b"XX", b"\0\0", b"CR", b"AW", b"RA", b"S\n", b"\xff\xff"];
+
+const MARKS: [&[u8]; 8] = [b"CF", b"C2", b"MM", b"SW", b"WR", b"RD", b"ST", b"AR"];
 
 /// Settings off the lists.
 pub const BAD_SETTINGS: [(u16, u16); 12] = [
@@ -43,18 +45,18 @@ pub fn bad_end(maker: &mut Maker) {
     match maker.random.below(100) {
         0..=7 => {
             let late = Record::Settings { width: 4, beats: 16 };
-            encode(&late, sequence, &mut bytes);
+            maker.encode(&late, sequence, &mut bytes);
         }
         8..=15 => {
             let mark = maker.random.pick(&UNKNOWN_MARKS);
             let sound = Record::Steps { steps: 3 };
-            encode(&sound, sequence, &mut bytes);
+            maker.encode(&sound, sequence, &mut bytes);
             bytes[..2].copy_from_slice(mark);
         }
         16..=27 => {
             let length = maker.random.pick(&[0u16, 0, 1025, 1025, 1026, 2048, 65_535]);
             let whole = Record::Memory { address: 64, bytes: vec![7; usize::from(length)] };
-            encode(&whole, sequence, &mut bytes);
+            maker.encode(&whole, sequence, &mut bytes);
         }
         28..=44 => {
             let length = maker.random.pick(&[1, 2, 64, 1024]);
@@ -65,7 +67,7 @@ pub fn bad_end(maker: &mut Maker) {
                 _ => maker.random.between(MEMORY, u32::MAX),
             };
             let bytes_past = maker.random.bytes(length);
-            encode(&Record::Memory { address, bytes: bytes_past }, sequence, &mut bytes);
+            maker.encode(&Record::Memory { address, bytes: bytes_past }, sequence, &mut bytes);
         }
         45..=59 => {
             while maker.replay.windows().len() < MOST_WINDOWS && !maker.ended {
@@ -73,11 +75,11 @@ pub fn bad_end(maker: &mut Maker) {
                 maker.window(start, 0);
             }
             let sequence = if sequence == old { old } else { maker.sequence.saturating_add(1) };
-            encode(&Record::Window { start: 1, length: 1 }, sequence, &mut bytes);
+            maker.encode(&Record::Window { start: 1, length: 1 }, sequence, &mut bytes);
         }
         60..=79 => {
             let bus = clocks::out_of_range(maker);
-            encode(&Record::Bus(bus), sequence, &mut bytes);
+            maker.encode(&Record::Bus(bus), sequence, &mut bytes);
         }
         80..=93 => {
             let offset = maker.random.pick(&[0, 4, 0x18, 0x28, BAD_OFFSETS[0] as u16]);
@@ -86,7 +88,7 @@ pub fn bad_end(maker: &mut Maker) {
                 1 => Record::Read { offset },
                 _ => Record::Steps { steps: 2 },
             };
-            encode(&record, old, &mut bytes);
+            maker.encode(&record, old, &mut bytes);
         }
         _ => {
             // One more number fits after this, and then none.
@@ -94,21 +96,74 @@ pub fn bad_end(maker: &mut Maker) {
             maker.dense = true;
             maker.read(4);
             maker.steps(1);
-            encode(&Record::Read { offset: 4 }, u32::MAX, &mut bytes);
+            maker.encode(&Record::Read { offset: 4 }, u32::MAX, &mut bytes);
         }
     }
     maker.bytes.extend_from_slice(&bytes);
+    unseen(maker);
+}
+
+/// Ends a trace with sound records, which must not be seen behind the one that ended the replay.
+fn unseen(maker: &mut Maker) {
+    let mut bytes = Vec::new();
     for (record, gap) in [(Record::Read { offset: 4 }, 7), (Record::Steps { steps: 9 }, 8)] {
-        encode(&record, maker.sequence.saturating_add(gap), &mut maker.bytes);
+        maker.encode(&record, maker.sequence.saturating_add(gap), &mut bytes);
     }
+    maker.bytes.extend_from_slice(&bytes);
     maker.ended = true;
+}
+
+/// Engine numbers that are none.
+pub const BAD_ENGINES: [u8; 9] = [0, 0, 3, 3, 255, 4, 16, 128, 129];
+
+/// The same for a trace with two engines, by what only such a trace has.
+pub fn bad_end_of_pair(maker: &mut Maker) {
+    let last = maker.sequence;
+    let good = last.saturating_add(1);
+    let old = maker.random.pick(&[0, last.saturating_sub(1), last]);
+    let sequence = if maker.random.chance(25) { old } else { good };
+    let offset = maker.random.pick(&[0, 4, 0x10, 0x18, 0x28, BAD_OFFSETS[0] as u16]);
+    let record = match maker.random.below(3) {
+        0 => Record::Write { offset, value: maker.random.pick(&[0, 4, 8, 64]) },
+        1 => Record::Read { offset },
+        _ => Record::Steps { steps: maker.random.pick(&[0, 1, 9]) },
+    };
+    let mut bytes = Vec::new();
+    match maker.random.below(100) {
+        0..=49 => {
+            let engine = maker.random.pick(&BAD_ENGINES);
+            encode_for(Some(engine), &record, sequence, &mut bytes);
+        }
+        50..=59 => {
+            let engine = maker.random.pick(&[None, Some(1)]);
+            let late = Record::Settings { width: 4, beats: 16 };
+            encode_for(engine, &late, sequence, &mut bytes);
+        }
+        60..=79 => {
+            // Without an engine number: what follows is read from one byte further on.
+            encode(&record, good, &mut bytes);
+        }
+        _ => {
+            // Cut, before its engine number and behind it, whether that is good or not.
+            let engine = maker.random.pick(&[0, 1, 2, 3]);
+            encode_for(Some(engine), &record, sequence, &mut bytes);
+            let end = maker.random.pick(&[6, 7, 8, bytes.len() - 1]);
+            bytes.truncate(end);
+            maker.bytes.extend_from_slice(&bytes);
+            maker.ended = true;
+            return;
+        }
+    }
+    maker.bytes.extend_from_slice(&bytes);
+    unseen(maker);
 }
 
 /// Places and numbers of the records at the front of a trace, as far as they can be read.
 fn records(trace: &[u8]) -> Vec<(usize, u32)> {
     let mut all = Vec::new();
     let mut rest = trace;
-    while let Ok((sequence, _, behind)) = read(rest, all.is_empty()) {
+    let form = Form::of(trace);
+    while let Ok((sequence, _, _, behind)) = read(rest, form, all.is_empty()) {
         all.push((trace.len() - rest.len(), sequence));
         rest = behind;
     }
@@ -126,7 +181,7 @@ pub fn damage(random: &mut Random, bytes: &mut Vec<u8>) {
     let record = random.below(all.len() as u32) as usize;
     let (place, sequence) = all[record];
     let previous = if record == 0 { 0 } else { all[record - 1].1 };
-    match random.below(11) {
+    match random.below(14) {
         0 => bytes.truncate(at),
         1 => bytes[at] ^= 1 << random.below(8),
         2 => bytes[at] = random.word() as u8,
@@ -146,7 +201,8 @@ pub fn damage(random: &mut Random, bytes: &mut Vec<u8>) {
         }
         7 => {
             let mut late = Vec::new();
-            encode(&Record::Settings { width: 8, beats: 4 }, sequence, &mut late);
+            let engine = random.pick(&[None, None, Some(1)]);
+            encode_for(engine, &Record::Settings { width: 8, beats: 4 }, sequence, &mut late);
             bytes.splice(place..place, late);
         }
         8 => {
@@ -154,18 +210,47 @@ pub fn damage(random: &mut Random, bytes: &mut Vec<u8>) {
             bytes[place..place + 2].copy_from_slice(mark);
         }
         9 => {
+            // Where an engine number is, or would be.
+            if let Some(number) = bytes.get_mut(place + 6) {
+                *number = random.pick(&BAD_ENGINES) ^ random.pick(&[0, 0, 1]);
+            }
+        }
+        10 => {
+            // One engine number more or less, so that what follows is read another way.
+            let number = (place + 6).min(bytes.len() - 1);
+            if random.chance(50) {
+                bytes.remove(number);
+            } else {
+                bytes.insert(number, random.pick(&[0, 1, 2, 3]));
+            }
+        }
+        11 => {
+            // A settings record as the other form has it, in its place or late.
+            let mark = random.pick(&[b"CF", b"C2"]);
+            let place = if random.chance(60) { 0 } else { place };
+            let end = bytes.len().min(place + 2);
+            bytes[place..end].copy_from_slice(&mark[..end - place]);
+        }
+        12 => {
             let tail = random.between(1, 6);
             let tail = random.bytes(tail);
             bytes.extend_from_slice(&tail);
         }
         _ => {
             // A sound mark with too few bytes after it.
-            bytes
-                .extend_from_slice(random.pick(&[b"CF", b"MM", b"SW", b"WR", b"RD", b"ST", b"AR"]));
+            bytes.extend_from_slice(random.pick(&MARKS));
             let tail = random.below(24);
             let tail = random.bytes(tail);
             bytes.extend_from_slice(&tail);
         }
+    }
+}
+
+/// Gives a trace that starts with CF the mark C2, and the other way round: all records behind it are
+/// then of the wrong length or too early.
+pub fn change_form(bytes: &mut [u8]) {
+    if let Some(mark) = bytes.first_chunk_mut::<2>() {
+        *mark = if mark == b"C2" { *b"CF" } else { *b"C2" };
     }
 }
 
@@ -174,8 +259,7 @@ pub fn noise(random: &mut Random) -> Vec<u8> {
     let length = random.below(200);
     let mut bytes = random.bytes(length);
     if random.chance(70) && bytes.len() >= 6 {
-        let mark = random.pick(&[b"CF", b"MM", b"SW", b"WR", b"RD", b"ST", b"AR"]);
-        bytes[..2].copy_from_slice(mark);
+        bytes[..2].copy_from_slice(random.pick(&MARKS));
         if random.chance(50) {
             let small = random.below(4);
             bytes[2..6].copy_from_slice(&small.to_le_bytes());

@@ -3,14 +3,14 @@
 use std::sync::OnceLock;
 
 use crate::maker::Maker;
-use crate::{catalogue, chains, clocks, copies, damage, pokes, queues};
+use crate::{catalogue, chains, clocks, copies, damage, pairs, pokes, queues};
 use shared::clocks::FLAGS;
 use shared::random::Random;
 
 /// The seed of the fixed traces.
 pub const FIXED: u64 = 1;
 
-pub const FAMILIES: [&str; 12] = [
+pub const FAMILIES: [&str; 16] = [
     "case",
     "prefix",
     "changed byte",
@@ -23,6 +23,10 @@ pub const FAMILIES: [&str; 12] = [
     "damaged",
     "noise",
     "long",
+    "two engines",
+    "two engines, refused",
+    "two engines, damaged",
+    "other form",
 ];
 
 /// The families of the catalogue.
@@ -43,7 +47,7 @@ pub fn fixed(index: u64) -> (&'static str, Vec<u8>) {
 /// The trace generated from `seed` and `index`.
 pub fn generated(seed: u64, index: u64) -> (&'static str, Vec<u8>) {
     let mut random = Random::new(seed, index);
-    let family = match random.below(100) {
+    let family = match random.below(125) {
         0..=32 => "deep",
         33..=45 => "copies",
         46..=61 => "chains",
@@ -52,13 +56,23 @@ pub fn generated(seed: u64, index: u64) -> (&'static str, Vec<u8>) {
         80..=86 => "refused",
         87..=94 => "damaged",
         95..=98 => "noise",
-        _ => "long",
+        99 => "long",
+        100..=115 => "two engines",
+        116..=119 => "two engines, refused",
+        120..=122 => "two engines, damaged",
+        _ => "other form",
     };
     (family, trace(family, random))
 }
 
-fn trace(family: &str, random: Random) -> Vec<u8> {
-    let mut maker = Maker::new(random);
+fn trace(family: &str, mut random: Random) -> Vec<u8> {
+    let mut maker = match family {
+        "two engines" | "two engines, refused" | "two engines, damaged" => {
+            Maker::with_two_engines(random)
+        }
+        "other form" if random.chance(50) => Maker::with_two_engines(random),
+        _ => Maker::new(random),
+    };
     if family == "long" {
         let (width, beats) = maker.random.pick(&[(4, 2), (4, 2), (4, 4), (8, 2)]);
         maker.first_settings(width, beats);
@@ -115,6 +129,34 @@ fn trace(family: &str, random: Random) -> Vec<u8> {
             }
         }
         "noise" => return damage::noise(&mut maker.random),
+        "two engines" => {
+            for _ in 0..maker.random.between(2, 4) {
+                pairs::pair(&mut maker);
+            }
+        }
+        "two engines, refused" => {
+            if maker.random.chance(60) {
+                pairs::pair(&mut maker);
+            }
+            if maker.random.chance(75) {
+                damage::bad_end_of_pair(&mut maker);
+            } else {
+                damage::bad_end(&mut maker);
+            }
+            return maker.bytes;
+        }
+        "two engines, damaged" => {
+            pairs::pair(&mut maker);
+            for _ in 0..maker.random.between(1, 2) {
+                damage::damage(&mut maker.random, &mut maker.bytes);
+            }
+            return maker.bytes;
+        }
+        "other form" => {
+            play(&mut maker);
+            damage::change_form(&mut maker.bytes);
+            return maker.bytes;
+        }
         _ => copies::long_copy(&mut maker),
     }
     if maker.random.chance(4) {
@@ -143,8 +185,8 @@ pub fn play(maker: &mut Maker) {
 #[cfg(test)]
 mod tests {
     use super::*;
-    use independent::record::read;
-    use shared::record::encode;
+    use independent::record::{read, Form};
+    use shared::record::encode_for;
 
     #[test]
     fn a_seed_and_an_index_give_the_same_trace_again() {
@@ -162,8 +204,11 @@ mod tests {
             let (_, bytes) = generated(77, index);
             let mut again = Vec::new();
             let mut rest = &bytes[..];
-            while let Ok((sequence, record, behind)) = read(rest, again.is_empty()) {
-                encode(&record, sequence, &mut again);
+            let form = Form::of(&bytes);
+            // What carries no engine number has the same bytes for each.
+            while let Ok((sequence, engine, record, behind)) = read(rest, form, again.is_empty()) {
+                let engine = (form == Form::TwoEngines).then_some(engine.unwrap_or(0));
+                encode_for(engine, &record, sequence, &mut again);
                 rest = behind;
             }
             assert_eq!(again, bytes[..bytes.len() - rest.len()]);

@@ -1,17 +1,19 @@
 // A trace in the making. Each record is also carried out, so the next one can be chosen with
 // knowledge of the state.
 
-use independent::engine::{Phase, Transfer};
+use independent::engine::{Engine, Phase, Transfer};
 use independent::listing::Listing;
 use independent::memory::MOST_WINDOWS;
 use independent::record::{self, Bus};
 use independent::trace::{self, Replay};
 use shared::bursts::full_piece;
 use shared::random::Random;
-use shared::record::encode;
+use shared::record::encode_for;
 use shared::registers::{BTT, DA, SA};
 use shared::settings;
 use std::io::{sink, Sink};
+
+use crate::pairs;
 
 pub type Record = record::Record<Vec<u8>>;
 
@@ -23,6 +25,10 @@ pub struct Maker {
     pub replay: Replay,
     listing: Listing<Sink>,
     pub bytes: Vec<u8>,
+    /// Of a trace with two engines, the number of the one that the next WR, RD or ST is for.
+    pub turn: Option<u8>,
+    /// How often a record of the other engine comes before one, in percent.
+    pub meddling: u32,
     pub sequence: u32,
     pub records: usize,
     /// The most records wanted.
@@ -42,6 +48,8 @@ impl Maker {
             replay: Replay::fresh(),
             listing: Listing::new(sink()),
             bytes: Vec::new(),
+            turn: None,
+            meddling: 0,
             sequence: 0,
             records: 0,
             most: usize::MAX,
@@ -51,7 +59,35 @@ impl Maker {
         }
     }
 
+    /// A trace with two engines, engine 1 in turn.
+    pub fn with_two_engines(random: Random) -> Maker {
+        Maker { turn: Some(1), ..Maker::new(random) }
+    }
+
+    /// Appends a record to `bytes` as the trace has it, for the engine in turn, and carries out
+    /// nothing.
+    pub fn encode(&self, record: &Record, sequence: u32, bytes: &mut Vec<u8>) {
+        encode_for(self.turn, record, sequence, bytes);
+    }
+
+    /// The next records are for the other engine, if there are two.
+    pub fn take_turns(&mut self) {
+        self.turn = self.turn.map(|number| 3 - number);
+        self.replay.turn_to(self.turn);
+    }
+
+    /// The engine that is not in turn, of a trace with two.
+    pub fn other(&self) -> Option<&Engine> {
+        self.turn.map(|number| &self.replay.engines[usize::from(2 - number)])
+    }
+
     pub fn put(&mut self, record: Record) {
+        if self.records > 0 && self.turn.is_some() && self.random.chance(self.meddling) {
+            // Not within itself: what comes for the other engine comes alone.
+            let meddling = std::mem::take(&mut self.meddling);
+            pairs::meddle(self);
+            self.meddling = meddling;
+        }
         if self.ended || self.records == self.most {
             self.ended = true;
             return;
@@ -64,7 +100,7 @@ impl Maker {
     }
 
     fn put_as(&mut self, sequence: u32, record: Record) {
-        encode(&record, sequence, &mut self.bytes);
+        encode_for(self.turn, &record, sequence, &mut self.bytes);
         self.sequence = sequence;
         self.records += 1;
         self.ended = self.replay.carry_out(&record, &mut self.listing, &mut ()) != 0;
@@ -74,7 +110,7 @@ impl Maker {
         self.put(Record::Settings { width: width as u16, beats: beats as u16 });
     }
 
-    /// A trace's first record: a CF may carry 0, and one in four does.
+    /// A trace's first record: a CF or C2 may carry 0, and one in four does.
     pub fn first_settings(&mut self, width: u32, beats: u32) {
         if self.random.one_in(4) {
             self.put_as(0, Record::Settings { width: width as u16, beats: beats as u16 });
@@ -83,9 +119,9 @@ impl Maker {
         }
     }
 
-    /// A CF with one of the 48 settings, or none.
+    /// A CF with one of the 48 settings, or none; a C2 always.
     pub fn any_settings(&mut self) {
-        if self.random.chance(85) {
+        if self.turn.is_some() || self.random.chance(85) {
             let (width, beats) = settings::listed(&mut self.random);
             self.first_settings(width, beats);
         }
@@ -124,7 +160,7 @@ impl Maker {
 
     /// The place down to a multiple of W.
     pub fn aligned(&self, place: u32) -> u32 {
-        place - place % self.replay.engine.width
+        place - place % self.replay.engine().width
     }
 
     pub fn steps(&mut self, steps: u16) {
@@ -136,16 +172,16 @@ impl Maker {
     }
 
     pub fn busy(&self) -> bool {
-        !self.replay.engine.idle()
+        !self.replay.engine().idle()
     }
 
     pub fn in_error(&self) -> bool {
-        self.replay.engine.in_error()
+        self.replay.engine().in_error()
     }
 
     /// Bytes of a full burst.
     pub fn unit(&self) -> u32 {
-        (self.replay.engine.width * self.replay.engine.beats).min(4096)
+        (self.replay.engine().width * self.replay.engine().beats).min(4096)
     }
 
     pub fn around(&mut self, centre: u32, reach: u32) -> u32 {
@@ -163,8 +199,11 @@ impl Maker {
             })
     }
 
-    /// Any address, with a liking for edges.
+    /// Any address, with a liking for edges, and for what the other engine uses.
     pub fn place(&mut self) -> u32 {
+        if self.turn.is_some() && self.random.chance(25) {
+            return pairs::place(self);
+        }
         let unit = self.unit();
         match self.random.below(100) {
             0..=39 => self.random.below(MEMORY),
@@ -173,7 +212,7 @@ impl Maker {
                 self.around(page, unit.min(300))
             }
             60..=69 => {
-                let word = self.random.below(MEMORY) & !(self.replay.engine.width - 1);
+                let word = self.random.below(MEMORY) & !(self.replay.engine().width - 1);
                 self.around(word, 2)
             }
             70..=79 => self.around(MEMORY, 80),
@@ -184,7 +223,7 @@ impl Maker {
                 self.around(edge, 40)
             }
             93..=96 => {
-                let descriptor = self.replay.engine.current;
+                let descriptor = self.replay.engine().current;
                 self.around(descriptor, 40)
             }
             _ => self.random.u32(),
@@ -193,7 +232,7 @@ impl Maker {
 
     /// A count of a transfer, measured in bursts so listings stay small.
     pub fn count(&mut self) -> u32 {
-        let (unit, width) = (self.unit(), self.replay.engine.width);
+        let (unit, width) = (self.unit(), self.replay.engine().width);
         match self.random.below(100) {
             0..=24 => self.random.between(1, width),
             25..=44 => self.around(unit, 3),
@@ -235,12 +274,12 @@ impl Maker {
 
     /// About how many steps the engine still has before it: a guess, which keeps listings small.
     pub fn steps_ahead(&self) -> u32 {
-        match self.replay.engine.phase {
+        match self.replay.engine().phase {
             Phase::Idle => 0,
             Phase::Fetch => 10,
             Phase::Update(_) => 1,
-            Phase::Move(Transfer { total, moved, .. }) if self.replay.engine.key_hole_write => {
-                (total - moved) / full_piece(&self.replay.engine) + 2
+            Phase::Move(Transfer { total, moved, .. }) if self.replay.engine().key_hole_write => {
+                (total - moved) / full_piece(self.replay.engine()) + 2
             }
             Phase::Move(Transfer { destination, total, moved, .. }) => {
                 let to = destination + moved;

@@ -5,7 +5,7 @@ use independent::answer;
 use independent::engine::{Engine, Event, Phase, Transfer};
 use independent::memory::MOST_WINDOWS;
 use independent::monitor::Clock;
-use independent::record::{read, Bus, Cause, Record};
+use independent::record::{read, Bus, Cause, Form, Record};
 use independent::trace::{replay_before, Observer, Replay};
 use shared::bursts::{share, sick, Burst, Side};
 use shared::coverage::{Counts, CDMACR_BITS, CDMASR_BITS};
@@ -15,18 +15,22 @@ use shared::settings::{BEATS, WIDTHS};
 
 use crate::coverage::WORDS;
 use crate::maker::MEMORY;
-use crate::observe_steps::{one_step, Memo, Step, Written};
+use crate::observe_pairs::{see_forms, turn, Pair};
+use crate::observe_steps::{one_step, Memo, Own, Step, Written};
 
 const TOP: u64 = 1 << 32;
 
 /// Replays a trace, counts what it did and gives its listing.
 pub fn observe(trace: &[u8], coverage: &mut Counts) -> Vec<u8> {
     coverage.see_if(trace.is_empty(), "empty trace");
-    coverage.see_if(!trace.is_empty() && !trace.starts_with(b"CF"), "trace without CF");
+    let form = Form::of(trace);
+    let without = form == Form::OneEngine && !trace.starts_with(b"CF");
+    coverage.see_if(!trace.is_empty() && without, "trace without CF");
     coverage.see_if(trace.len() == 1, "trace of one byte");
     coverage.see_if(trace == b"C", "trace of the byte C alone");
+    see_forms(trace, coverage);
     let mut listing = Vec::new();
-    replay_before(trace, &mut listing, &mut Watcher::new(coverage));
+    replay_before(trace, &mut listing, &mut Watcher::new(form, coverage));
     count_lines(&listing, coverage);
     listing
 }
@@ -35,7 +39,9 @@ pub fn observe(trace: &[u8], coverage: &mut Counts) -> Vec<u8> {
 struct Watcher<'a> {
     coverage: &'a mut Counts,
     memo: Memo,
-    /// The engine before the record, and before the step.
+    /// Of a trace with two engines.
+    pair: Option<Pair>,
+    /// The engine in turn before the record, and before the step.
     start: Engine,
     engine: Engine,
     flags: u64,
@@ -44,11 +50,19 @@ struct Watcher<'a> {
 }
 
 impl Watcher<'_> {
-    fn new(coverage: &mut Counts) -> Watcher<'_> {
-        let Replay { engine, monitor, .. } = Replay::fresh();
+    fn new(form: Form, coverage: &mut Counts) -> Watcher<'_> {
+        let Replay { engines: [engine, start], monitor, .. } = Replay::fresh();
         let (flags, held) = (monitor.flags, monitor.before);
-        let start = engine.clone();
-        Watcher { coverage, memo: Memo::new(), start, engine, flags, held, steps: 0 }
+        let pair = (form == Form::TwoEngines).then(Pair::default);
+        Watcher { coverage, memo: Memo::new(), pair, start, engine, flags, held, steps: 0 }
+    }
+
+    fn form(&self) -> Form {
+        if self.pair.is_some() {
+            Form::TwoEngines
+        } else {
+            Form::OneEngine
+        }
     }
 }
 
@@ -59,23 +73,32 @@ impl Observer for Watcher<'_> {
     }
 
     fn record(&mut self, replay: &Replay, record: &Record<&[u8]>) {
-        self.coverage.see_if(behind_zero(replay), "record after a CF of number 0");
+        if let Some(pair) = &mut self.pair {
+            pair.before(replay, record, self.coverage);
+        } else {
+            self.coverage.see_if(behind_zero(replay), "record after a CF of number 0");
+            see_settings(record, ["CF of bad width", "CF of bad beats"], self.coverage);
+        }
         before(replay, record, &mut self.memo, self.coverage);
-        self.start.clone_from(&replay.engine);
+        self.start.clone_from(replay.engine());
         self.flags = replay.monitor.flags;
         self.held = replay.monitor.before;
         self.steps = 0;
     }
 
     fn carried_out(&mut self, replay: &Replay, record: &Record<&[u8]>) {
+        if let Some(pair) = &mut self.pair {
+            pair.after(replay, record, self.coverage);
+        }
         match record {
             Record::Settings { .. } => {
-                self.coverage.see_if(replay.last == 0, "CF of number 0");
+                let zero = self.pair.is_none() && replay.last == 0;
+                self.coverage.see_if(zero, "CF of number 0");
             }
             Record::Steps { steps } => {
-                run(&replay.engine, self.steps, usize::from(*steps), self.coverage);
+                run(replay.engine(), self.steps, usize::from(*steps), self.coverage);
                 let (taken, most) = (self.steps as u32, u32::from(*steps));
-                key_hole::see_run(&self.start, &replay.engine, taken, most, self.coverage);
+                key_hole::see_run(&self.start, replay.engine(), taken, most, self.coverage);
             }
             Record::Bus(bus) => {
                 clock(bus, &self.held, self.flags, replay.monitor.flags, self.coverage);
@@ -89,13 +112,19 @@ impl Observer for Watcher<'_> {
         let first = replay.place == 0;
         let default = first && self.memo.default;
         self.coverage.see_if(default, "default line before a refused record");
-        match read(trace, first) {
-            Err(cause) => unreadable(trace, replay, cause, self.coverage),
-            Ok((sequence, record, rest)) => {
+        if let Some(pair) = &self.pair {
+            pair.refused(replay, trace, answer, self.coverage);
+        }
+        match read(trace, self.form(), first) {
+            Err(cause) => unreadable(trace, replay, cause, self.memo.default, self.coverage),
+            Ok((sequence, _, record, rest)) => {
+                let of_one = self.pair.is_none();
                 if answer == answer::SEQUENCE {
                     old_number(replay, &record, sequence, self.coverage);
+                    let zero = of_one && behind_zero(replay);
+                    self.coverage.see_if(zero, "number 0 after a CF of number 0");
                 }
-                let zero = sequence == 0 && answer == answer::SETTINGS;
+                let zero = of_one && sequence == 0 && answer == answer::SETTINGS;
                 self.coverage.see_if(zero, "CF of number 0 with settings off the lists");
                 self.coverage.see_if(!rest.is_empty(), "records after a bad one");
             }
@@ -103,24 +132,28 @@ impl Observer for Watcher<'_> {
     }
 
     fn step(&mut self, replay: &Replay) {
-        self.engine.clone_from(&replay.engine);
+        self.engine.clone_from(replay.engine());
     }
 
     fn stepped(&mut self, replay: &Replay, event: Event) {
         self.steps += 1;
         let step = Step {
+            turn: turn(replay),
             before: &self.engine,
             windows: replay.windows(),
             event,
-            after: &replay.engine,
+            after: replay.engine(),
             memory: &replay.memory,
         };
+        if let Some(pair) = &mut self.pair {
+            pair.step(&step, &replay.engines[1 - step.turn], &self.memo, self.coverage);
+        }
         one_step(&step, &mut self.memo, self.coverage);
     }
 }
 
-/// Is the next record right behind a CF of number 0? All other good numbers are above 0.
-fn behind_zero(replay: &Replay) -> bool {
+/// Is the next record right behind a CF or C2 of number 0? All other good numbers are above 0.
+pub fn behind_zero(replay: &Replay) -> bool {
     replay.place > 0 && replay.last == 0
 }
 
@@ -150,21 +183,26 @@ fn count_lines(listing: &[u8], coverage: &mut Counts) {
 }
 
 /// A record that gets answer 10.
-fn unreadable(rest: &[u8], replay: &Replay, cause: Cause, coverage: &mut Counts) {
+fn unreadable(rest: &[u8], replay: &Replay, cause: Cause, default: bool, coverage: &mut Counts) {
     coverage.see(match cause {
         Cause::CutInHead => "cut in a head",
         Cause::CutInBody => "cut in a body",
         Cause::UnknownMark => "unknown mark",
         Cause::NoLength => "MM of no bytes",
         Cause::TooLong => "MM of more than 1,024 bytes",
+        Cause::LateSettings if rest.starts_with(b"C2") => "late C2 behind C2",
         Cause::LateSettings => "late CF",
     });
     coverage.see_if(rest.len() == 1, "one byte left over");
+    if cause == Cause::UnknownMark && rest.starts_with(b"C2") {
+        // Not the first record, or it would be a trace with two engines.
+        coverage.see(if default { "late C2 in a trace without both" } else { "late C2 behind CF" });
+    }
     coverage.see_if(replay.place == 0 && rest.starts_with(b"CF"), "cut CF");
     if rest.len() >= 6 {
         let sequence = u32::from_le_bytes([rest[2], rest[3], rest[4], rest[5]]);
         coverage.see_if(sequence <= replay.last, "old number beside answer 10");
-        let late = cause == Cause::LateSettings;
+        let late = cause == Cause::LateSettings && rest.starts_with(b"CF");
         coverage.see_if(late && sequence == 0, "late CF of number 0");
     }
 }
@@ -175,7 +213,6 @@ fn old_number(replay: &Replay, record: &Record<&[u8]>, sequence: u32, coverage: 
     let last = replay.last;
     coverage.see_if(sequence == 0, "number of zero");
     coverage.see_if(replay.place == 0, "default line before a number of zero");
-    coverage.see_if(behind_zero(replay), "number 0 after a CF of number 0");
     coverage.see_if(sequence == last && last != 0, "number repeated");
     coverage.see_if(sequence < last, "number falling");
     let own = match record {
@@ -206,15 +243,20 @@ fn fields_out(bus: &Bus) -> Vec<&'static str> {
     all.iter().filter(|(out, _)| *out).map(|(_, name)| *name).collect()
 }
 
+/// Settings off the lists, by the names of these two situations.
+pub fn see_settings(record: &Record<&[u8]>, names: [&'static str; 2], coverage: &mut Counts) {
+    if let Record::Settings { width, beats } = record {
+        coverage.see_if(!WIDTHS.contains(&u32::from(*width)), names[0]);
+        coverage.see_if(!BEATS.contains(&u32::from(*beats)), names[1]);
+    }
+}
+
 /// A record with a good number, before it is carried out.
 fn before(replay: &Replay, record: &Record<&[u8]>, memo: &mut Memo, coverage: &mut Counts) {
-    let engine = &replay.engine;
+    let engine = replay.engine();
     let busy = !engine.idle();
     match record {
-        Record::Settings { width, beats } => {
-            coverage.see_if(!WIDTHS.contains(&u32::from(*width)), "CF of bad width");
-            coverage.see_if(!BEATS.contains(&u32::from(*beats)), "CF of bad beats");
-        }
+        Record::Settings { .. } => {}
         Record::Memory { address, bytes } => {
             let past = past_end(*address, bytes);
             coverage.see_if(bytes.len() == 1024 && past == 0, "MM of 1,024 bytes");
@@ -247,7 +289,7 @@ fn before(replay: &Replay, record: &Record<&[u8]>, memo: &mut Memo, coverage: &m
         }
         Record::Write { offset, value } => {
             coverage.write(u32::from(*offset), engine);
-            register_write(engine, *offset, *value, memo, coverage);
+            register_write(engine, *offset, *value, &mut memo.own[turn(replay)], coverage);
         }
         Record::Read { offset } => {
             coverage.read(u32::from(*offset), engine);
@@ -271,13 +313,7 @@ fn over_queues(engine: &Engine, start: u32, count: u32) -> [bool; 2] {
         .map_or([false; 2], |burst| [over(&burst.source), over(&burst.destination)])
 }
 
-fn register_write(
-    engine: &Engine,
-    offset: u16,
-    value: u32,
-    memo: &mut Memo,
-    coverage: &mut Counts,
-) {
+fn register_write(engine: &Engine, offset: u16, value: u32, own: &mut Own, coverage: &mut Counts) {
     let busy = !engine.idle();
     let mut after = engine.clone();
     let answer = after.write(u32::from(offset), value);
@@ -285,15 +321,15 @@ fn register_write(
     match offset {
         0x00 if value & 4 != 0 => {
             reset(engine, coverage);
-            memo.at_tail = false;
-            memo.restart = false;
-            memo.old_tail = None;
+            own.at_tail = false;
+            own.restart = false;
+            own.old_tail = None;
         }
         0x00 => {
             let mode = (value & CHAIN != 0) != engine.sg_mode;
             coverage.see_if(answer == 4 && mode, "mode change refused while busy");
             coverage.see_if(busy && after != *engine, "enables written while busy");
-            memo.mode_changed |= after.sg_mode != engine.sg_mode;
+            own.mode_changed |= after.sg_mode != engine.sg_mode;
         }
         0x04 => {
             coverage.see_if(engine.ioc_irq && !after.ioc_irq, "IOC_Irq cleared");
@@ -302,9 +338,9 @@ fn register_write(
             let left = cleared && after.in_error();
             coverage.see_if(left, "Err_Irq cleared with the error bit left");
         }
-        0x08 if answer == 0 => memo.at_tail = false,
+        0x08 if answer == 0 => own.at_tail = false,
         0x10 if answer == 0 && busy && after.tail != engine.tail => {
-            memo.old_tail = Some(engine.tail);
+            own.old_tail = Some(engine.tail);
             coverage.see(match engine.phase {
                 Phase::Fetch => "tail replaced before a fetch",
                 Phase::Update(_) => "tail replaced before an update",
@@ -312,9 +348,9 @@ fn register_write(
             });
         }
         0x10 if answer == 0 && !busy => {
-            memo.restart = memo.at_tail;
-            memo.old_tail = None;
-            memo.descriptors = 0;
+            own.restart = own.at_tail;
+            own.old_tail = None;
+            own.descriptors = 0;
         }
         0x28 if answer == 0 => {
             let high = value > 0x7f_ffff;

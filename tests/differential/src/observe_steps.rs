@@ -13,6 +13,8 @@ const TOP: u64 = 1 << 32;
 
 /// One step that was taken.
 pub struct Step<'a> {
+    /// The place of its engine, from 0.
+    pub turn: usize,
     pub before: &'a Engine,
     pub windows: &'a [Window],
     pub event: Event,
@@ -24,6 +26,8 @@ pub struct Step<'a> {
 /// What a byte of memory was written by.
 #[derive(Clone, Copy, Default)]
 pub struct Written {
+    /// The place of an engine, from 0, by a burst or an update; none by an MM.
+    pub engine: Option<usize>,
     /// A burst, and no MM and no update since.
     copied: bool,
     /// Its value came from a fixed source, or through a fixed destination.
@@ -31,10 +35,9 @@ pub struct Written {
     through_queue: bool,
 }
 
-/// What is remembered of a trace from record to record.
-pub struct Memo {
-    /// The trace got the default settings.
-    pub default: bool,
+/// What is remembered of an engine from record to record.
+#[derive(Default)]
+pub struct Own {
     /// The last good update ended at the tail, and next was not set since.
     pub at_tail: bool,
     pub mode_changed: bool,
@@ -43,27 +46,26 @@ pub struct Memo {
     /// The tail that was replaced while busy.
     pub old_tail: Option<u32>,
     pub descriptors: u32,
-    /// Of each byte of memory.
-    pub written: Vec<Written>,
     /// Of the destination of the fetched descriptor, what all its bytes have.
-    shown: Written,
+    pub shown: Written,
     /// The fetched descriptor has a fixed side off the multiples.
     off: bool,
 }
 
+/// What is remembered of a trace from record to record.
+pub struct Memo {
+    /// The trace got the default settings.
+    pub default: bool,
+    /// Of each byte of memory.
+    pub written: Vec<Written>,
+    /// Of engines 1 and 2.
+    pub own: [Own; 2],
+}
+
 impl Memo {
     pub fn new() -> Memo {
-        Memo {
-            default: false,
-            at_tail: false,
-            mode_changed: false,
-            restart: false,
-            old_tail: None,
-            descriptors: 0,
-            written: vec![Written::default(); MEMORY as usize],
-            shown: Written::default(),
-            off: false,
-        }
+        let written = vec![Written::default(); MEMORY as usize];
+        Memo { default: false, written, own: Default::default() }
     }
 }
 
@@ -94,15 +96,18 @@ fn fetched(step: &Step, current: u32, memo: &mut Memo, coverage: &mut Counts) {
         let bytes = &step.memory[at + place..at + place + 4];
         u32::from_le_bytes([bytes[0], bytes[1], bytes[2], bytes[3]])
     };
-    if memo.restart {
+    let own = &mut memo.own[step.turn];
+    if own.restart {
         coverage.see("restart after the tail");
-        coverage.see_if(memo.mode_changed, "restart after the tail with a change of mode between");
-        memo.restart = false;
+        coverage.see_if(own.mode_changed, "restart after the tail with a change of mode between");
+        own.restart = false;
     }
-    memo.mode_changed = false;
-    memo.at_tail = false;
+    own.mode_changed = false;
+    own.at_tail = false;
     let destination = &memo.written[at + 0x10..at + 0x14];
-    memo.shown = Written {
+    let engine = destination[0].engine;
+    own.shown = Written {
+        engine: engine.filter(|_| destination.iter().all(|byte| byte.engine == engine)),
         copied: destination.iter().all(|byte| byte.copied),
         from_queue: destination.iter().all(|byte| byte.from_queue),
         through_queue: destination.iter().all(|byte| byte.through_queue),
@@ -115,14 +120,15 @@ fn fetched(step: &Step, current: u32, memo: &mut Memo, coverage: &mut Counts) {
         coverage.see_if(word(0x18) != 0, "count of zero with other control bits");
     }
     let off = step.after.phase == Phase::Update(Outcome::Internal);
-    memo.off = off && word(0x18) & 0x7f_ffff != 0;
+    own.off = off && word(0x18) & 0x7f_ffff != 0;
     let copy = [word(0x08), word(0x10), word(0x18)];
     see_start(step.before, BY_DESCRIPTOR, copy, coverage);
 }
 
 fn halted(step: &Step, current: u32, bit: u32, memo: &mut Memo, coverage: &mut Counts) {
-    memo.restart = false;
-    memo.at_tail = false;
+    let own = &mut memo.own[step.turn];
+    own.restart = false;
+    own.at_tail = false;
     let status = touches(step.windows, current + 0x1c, 4);
     match (step.before.phase, bit) {
         (Phase::Fetch, 8) => coverage.see("stale descriptor"),
@@ -153,7 +159,7 @@ fn default_burst(step: &Step, burst: &Burst, coverage: &mut Counts) {
 }
 
 /// What the bytes of a good burst have, from those that it read.
-fn written(burst: &Burst, memo: &mut Memo) {
+fn written(burst: &Burst, turn: usize, memo: &mut Memo) {
     let places = |side: &Side| {
         let used = side.used.clone().into_iter().flatten();
         used.map(|at| at as usize).collect::<Vec<_>>()
@@ -165,6 +171,7 @@ fn written(burst: &Burst, memo: &mut Memo) {
     for (place, at) in to.into_iter().enumerate() {
         let old = if read || write { Written::default() } else { old[place] };
         memo.written[at] = Written {
+            engine: Some(turn),
             copied: true,
             from_queue: read || old.from_queue,
             through_queue: write || old.through_queue,
@@ -174,7 +181,7 @@ fn written(burst: &Burst, memo: &mut Memo) {
 
 fn moved(step: &Step, to: u32, bytes: u32, memo: &mut Memo, coverage: &mut Counts) {
     let burst = burst(step);
-    written(&burst, memo);
+    written(&burst, step.turn, memo);
     if memo.default {
         default_burst(step, &burst, coverage);
     }
@@ -258,7 +265,7 @@ fn failed(step: &Step, memo: &Memo, coverage: &mut Counts) {
         });
     }
     if step.before.sg_mode && done == 0 {
-        let Written { copied, from_queue, through_queue } = memo.shown;
+        let Written { copied, from_queue, through_queue, .. } = memo.own[step.turn].shown;
         coverage.see_if(copied, "copied word shown by a fault line");
         coverage.see_if(from_queue, "word from a fixed source shown by a fault line");
         coverage.see_if(through_queue, "word of a fixed destination shown by a fault line");
@@ -266,24 +273,26 @@ fn failed(step: &Step, memo: &Memo, coverage: &mut Counts) {
 }
 
 fn updated(step: &Step, current: u32, word: u32, memo: &mut Memo, coverage: &mut Counts) {
-    memo.written[current as usize + 0x1c..current as usize + 0x20].fill(Written::default());
+    let status = Written { engine: Some(step.turn), ..Written::default() };
+    memo.written[current as usize + 0x1c..current as usize + 0x20].fill(status);
+    let own = &mut memo.own[step.turn];
     if word != 0x8000_0000 {
-        memo.at_tail = false;
-        coverage.see_if(memo.off, "update after a fixed side off the multiples");
+        own.at_tail = false;
+        coverage.see_if(own.off, "update after a fixed side off the multiples");
         return;
     }
-    memo.descriptors += 1;
+    own.descriptors += 1;
     if step.after.idle() {
-        memo.at_tail = true;
-        memo.mode_changed = false;
-        coverage.see_if(memo.old_tail.is_some(), "chain ended at its new tail");
-        memo.old_tail = None;
+        own.at_tail = true;
+        own.mode_changed = false;
+        coverage.see_if(own.old_tail.is_some(), "chain ended at its new tail");
+        own.old_tail = None;
     } else {
         coverage.see("chain of more than one descriptor");
         let fixed = step.before.key_hole_read || step.before.key_hole_write;
         coverage.see_if(fixed, "chain of more than one descriptor with a fixed side");
-        coverage.see_if(memo.descriptors == 3, "chain of four descriptors or more");
-        let past = memo.old_tail == Some(current);
+        coverage.see_if(own.descriptors == 3, "chain of four descriptors or more");
+        let past = own.old_tail == Some(current);
         coverage.see_if(past, "chain went on past a replaced tail");
     }
 }

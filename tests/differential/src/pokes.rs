@@ -34,7 +34,7 @@ pub fn poke(maker: &mut Maker) {
 
 /// A CDMACR value: seldom the reset, often one that keeps the mode and the key hole bits.
 fn control_value(maker: &mut Maker) -> u32 {
-    let kept = kept(&maker.replay.engine);
+    let kept = kept(maker.replay.engine());
     let random = &mut maker.random;
     let enables = random.pick(&[0, 0x1000, 0x4000, 0x5000]);
     match random.below(100) {
@@ -47,7 +47,7 @@ fn control_value(maker: &mut Maker) -> u32 {
 }
 
 fn pointer(maker: &mut Maker) -> u32 {
-    let engine = &maker.replay.engine;
+    let engine = maker.replay.engine();
     let near = [engine.current, engine.tail, engine.next, engine.held_next];
     let random = &mut maker.random;
     // The low six bits are dropped: they are garbage as often as not.
@@ -75,7 +75,7 @@ pub fn count_value(maker: &mut Maker) -> u32 {
 
 /// A sick window over something that will be read or written, or somewhere else.
 pub fn window(maker: &mut Maker) {
-    let engine = &maker.replay.engine;
+    let engine = maker.replay.engine();
     let (current, next, sg_mode) = (engine.current, engine.held_next, engine.sg_mode);
     let (width, fixed) = (engine.width, [engine.key_hole_read, engine.key_hole_write]);
     let ahead = match engine.phase {
@@ -119,7 +119,7 @@ pub fn window(maker: &mut Maker) {
 
 /// Bytes put into memory: over what a transfer is about to use, or anywhere.
 pub fn memory(maker: &mut Maker) {
-    let engine = &maker.replay.engine;
+    let engine = maker.replay.engine();
     let (current, next, sg_mode) = (engine.current, engine.held_next, engine.sg_mode);
     let length = maker.random.pick(&[1, 2, 3, 4, 8, 32, 33, 64, 100]);
     let queue = match engine.phase {
@@ -140,7 +140,7 @@ pub fn memory(maker: &mut Maker) {
 }
 
 /// Something between two steps of a transfer.
-fn interject(maker: &mut Maker) {
+pub fn interject(maker: &mut Maker) {
     match maker.random.below(100) {
         0..=49 => poke(maker),
         50..=59 => maker.read(CDMASR),
@@ -167,7 +167,7 @@ pub fn run(maker: &mut Maker) {
     let restless = maker.random.chance(60);
     for _ in 0..14 {
         // Few steps leave a chain before its update: that state is used when it comes.
-        let updating = matches!(maker.replay.engine.phase, Phase::Update(_));
+        let updating = matches!(maker.replay.engine().phase, Phase::Update(_));
         while restless && maker.random.chance(if updating { 75 } else { 40 }) {
             interject(maker);
         }
@@ -181,7 +181,7 @@ pub fn run(maker: &mut Maker) {
             50..=64 if restless => maker.random.between(2, 4),
             _ if ahead > 120 && !maker.long => maker.random.between(5, 60),
             65..=69 => ahead.min(65_535),
-            70..=72 if maker.replay.engine.sg_mode => maker.random.between(5, 40),
+            70..=72 if maker.replay.engine().sg_mode => maker.random.between(5, 40),
             73..=90 => 65_535,
             _ => maker.random.between(5, 60).min(ahead + 5),
         };
@@ -216,8 +216,8 @@ pub fn ready(maker: &mut Maker, chain: bool) {
         maker.write(CDMACR, RESET);
     }
     // Fixed sides would refuse most of what comes, so they are seldom left.
-    let fixed = kept(&maker.replay.engine) & KEY_HOLE != 0 && maker.random.chance(90);
-    if maker.replay.engine.sg_mode != chain || fixed || maker.random.chance(10) {
+    let fixed = kept(maker.replay.engine()) & KEY_HOLE != 0 && maker.random.chance(90);
+    if maker.replay.engine().sg_mode != chain || fixed || maker.random.chance(10) {
         let mode = if chain { CHAIN } else { 0 };
         let enables = maker.random.pick(&[0, 0, 0x1000, 0x4000, 0x5000]);
         maker.write(CDMACR, mode | enables);

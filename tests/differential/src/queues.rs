@@ -42,6 +42,15 @@ fn prepare(maker: &mut Maker, mode: u32, sides: u32) {
     }
 }
 
+/// Starts a simple transfer and runs none of it.
+pub fn begin(maker: &mut Maker) {
+    let sides = maker.random.pick(&SIDES);
+    prepare(maker, 0, sides);
+    let copy = transfer(maker, sides);
+    fill(maker, &copy, sides);
+    maker.start_copy(copy.source, copy.destination, copy.count);
+}
+
 fn simple(maker: &mut Maker, sides: u32) {
     prepare(maker, 0, sides);
     let mut copy = transfer(maker, sides);
@@ -103,7 +112,7 @@ fn transfer(maker: &mut Maker, sides: u32) -> Copy {
     let mut count = count(maker);
     // Two queues never end, and a chain of many pieces would print each.
     if read && write && count > MEMORY {
-        count = maker.replay.engine.width;
+        count = maker.replay.engine().width;
     }
     let mut copy = Copy {
         source: if read { word(maker) } else { maker.sound_place(count) },
@@ -113,7 +122,7 @@ fn transfer(maker: &mut Maker, sides: u32) -> Copy {
     if maker.random.chance(30) {
         overlap(maker, &mut copy, read, write);
     }
-    let width = maker.replay.engine.width;
+    let width = maker.replay.engine().width;
     if maker.random.chance(4) {
         copy.count = 0;
     }
@@ -131,7 +140,7 @@ fn transfer(maker: &mut Maker, sides: u32) -> Copy {
 /// Few words to a page's end, so that both bursts use a part of the word: with a window over the
 /// other part the first one is good, or the second one if the window comes between.
 fn short_bursts(maker: &mut Maker, copy: &mut Copy) {
-    let width = maker.replay.engine.width;
+    let width = maker.replay.engine().width;
     let first = maker.random.between(1, width - 1);
     let queue = maker.random.below(MEMORY - PAGE);
     copy.source = maker.aligned(queue);
@@ -145,7 +154,7 @@ fn short_bursts(maker: &mut Maker, copy: &mut Copy) {
 
 /// A multiple of W, measured in pieces so listings stay small.
 fn count(maker: &mut Maker) -> u32 {
-    let engine = &maker.replay.engine;
+    let engine = maker.replay.engine();
     let (width, piece) = (engine.width, full_piece(engine));
     let random = &mut maker.random;
     match random.below(100) {
@@ -162,7 +171,7 @@ fn count(maker: &mut Maker) -> u32 {
 
 /// A word for a queue: mostly sound, at a page's end, at the memory's end, past it, at the top.
 fn word(maker: &mut Maker) -> u32 {
-    let width = maker.replay.engine.width;
+    let width = maker.replay.engine().width;
     let place = match maker.random.below(100) {
         0..=59 => maker.sound_place(width),
         60..=74 => maker.random.between(1, 7) * PAGE - maker.random.between(1, 2) * width,
@@ -186,7 +195,7 @@ fn overlap(maker: &mut Maker, copy: &mut Copy, read: bool, write: bool) {
 
 /// Puts bytes where the source is.
 fn fill(maker: &mut Maker, copy: &Copy, sides: u32) {
-    let bytes = if sides & KEY_HOLE_READ == 0 { copy.count } else { maker.replay.engine.width };
+    let bytes = if sides & KEY_HOLE_READ == 0 { copy.count } else { maker.replay.engine().width };
     put(maker, copy.source, bytes.min(1024));
 }
 
@@ -200,7 +209,7 @@ fn put(maker: &mut Maker, place: u32, count: u32) {
 
 /// Steps between which the queue is filled anew, as a sensor would; and what may come beside it.
 fn feed(maker: &mut Maker, copy: &Copy, sides: u32) {
-    let width = maker.replay.engine.width;
+    let width = maker.replay.engine().width;
     for _ in 0..maker.random.between(1, 4) {
         maker.steps(1);
         if !maker.busy() {
@@ -218,7 +227,7 @@ fn feed(maker: &mut Maker, copy: &Copy, sides: u32) {
 
 /// Writes CDMACR with the key hole bits as they are or with one of them changed, and reads it back.
 fn control(maker: &mut Maker) {
-    let kept = kept(&maker.replay.engine);
+    let kept = kept(maker.replay.engine());
     let change = maker.random.pick(&[0, KEY_HOLE_READ, KEY_HOLE_WRITE, KEY_HOLE, CHAIN]);
     let enables = maker.random.pick(&[0, 0x1000, 0x4000, 0x5000]);
     maker.write(CDMACR, kept ^ change | enables);
@@ -227,7 +236,7 @@ fn control(maker: &mut Maker) {
 
 /// A window at an end of a queue's word, next to it, or where the side would go if it incremented.
 fn windows(maker: &mut Maker, copy: &Copy, sides: u32) {
-    let width = maker.replay.engine.width;
+    let width = maker.replay.engine().width;
     let queue = match sides {
         KEY_HOLE_READ => copy.source,
         KEY_HOLE_WRITE => copy.destination,
@@ -255,7 +264,7 @@ fn windows(maker: &mut Maker, copy: &Copy, sides: u32) {
 
 /// Shows words of what was written: a listing never prints a byte of memory.
 fn show(maker: &mut Maker, copy: &Copy, sides: u32) {
-    let width = maker.replay.engine.width;
+    let width = maker.replay.engine().width;
     if maker.random.chance(55) {
         return;
     }

@@ -34,6 +34,8 @@ pub struct Counts {
     writes: [[u64; 7]; 12],
     reads: [[u64; 7]; 12],
     starts: [[u64; 2]; STARTS.len()],
+    /// By the engine that takes a record or a step, and the states of engines 1 and 2.
+    pairs: [[[u64; 7]; 7]; 2],
 }
 
 impl Counts {
@@ -49,6 +51,7 @@ impl Counts {
             writes: [[0; 7]; 12],
             reads: [[0; 7]; 12],
             starts: [[0; 2]; STARTS.len()],
+            pairs: [[[0; 7]; 7]; 2],
         }
     }
 
@@ -109,6 +112,12 @@ impl Counts {
         self.reads[registers::row(offset)][registers::column(engine)] += 1;
     }
 
+    /// Counts a record or a step of one of two engines, whose place is from 0.
+    pub fn pair(&mut self, place: usize, engines: &[Engine; 2]) {
+        let [first, second] = engines.each_ref().map(registers::column);
+        self.pairs[place][first][second] += 1;
+    }
+
     pub fn add(&mut self, other: &Counts) {
         add_rows(&mut self.numbers, &other.numbers);
         add_rows(&mut self.named, &other.named);
@@ -117,6 +126,9 @@ impl Counts {
         add_table(&mut self.writes, &other.writes);
         add_table(&mut self.reads, &other.reads);
         add_table(&mut self.starts, &other.starts);
+        for (sum, table) in self.pairs.iter_mut().zip(&other.pairs) {
+            add_table(sum, table);
+        }
     }
 
     /// Prints a row for each group; this and the others give the number of zeros.
@@ -146,6 +158,17 @@ impl Counts {
             + print_table("register writes", &states, &registers, &self.writes)
             + print_table("register reads", &states, &registers, &self.reads)
             + print_table("starts with a fixed side", &starters, &starts, &self.starts)
+            + self.print_pairs()
+    }
+
+    fn print_pairs(&self) -> usize {
+        let rows = STATES.map(|state| format!("engine 1 {state}"));
+        let columns = STATES.map(String::from);
+        let print = |number: usize| {
+            let title = format!("engine {number} in turn; across: engine 2");
+            print_table(&title, &columns, &rows, &self.pairs[number - 1])
+        };
+        print(1) + print(2)
     }
 }
 

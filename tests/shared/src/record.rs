@@ -3,8 +3,20 @@
 
 use independent::record::{Bus, Record};
 
-/// Appends a record to a trace.
+/// Appends a record to a trace of one engine.
 pub fn encode(record: &Record<impl AsRef<[u8]>>, sequence: u32, trace: &mut Vec<u8>) {
+    encode_for(None, record, sequence, trace);
+}
+
+/// Appends a record to a trace. One of two engines has an engine number, which a WR, RD or ST
+/// carries, good or not; its settings have the mark C2.
+pub fn encode_for(
+    engine: Option<u8>,
+    record: &Record<impl AsRef<[u8]>>,
+    sequence: u32,
+    trace: &mut Vec<u8>,
+) {
+    let number = engine.as_slice();
     let mut put = |mark: &[u8; 2], body: &[&[u8]]| {
         trace.extend_from_slice(mark);
         trace.extend_from_slice(&sequence.to_le_bytes());
@@ -14,7 +26,8 @@ pub fn encode(record: &Record<impl AsRef<[u8]>>, sequence: u32, trace: &mut Vec<
     };
     match record {
         Record::Settings { width, beats } => {
-            put(b"CF", &[&width.to_le_bytes(), &beats.to_le_bytes()]);
+            let mark = if engine.is_some() { b"C2" } else { b"CF" };
+            put(mark, &[&width.to_le_bytes(), &beats.to_le_bytes()]);
         }
         Record::Memory { address, bytes } => {
             let bytes = bytes.as_ref();
@@ -25,10 +38,10 @@ pub fn encode(record: &Record<impl AsRef<[u8]>>, sequence: u32, trace: &mut Vec<
             put(b"SW", &[&start.to_le_bytes(), &length.to_le_bytes()]);
         }
         Record::Write { offset, value } => {
-            put(b"WR", &[&offset.to_le_bytes(), &value.to_le_bytes()]);
+            put(b"WR", &[number, &offset.to_le_bytes(), &value.to_le_bytes()]);
         }
-        Record::Read { offset } => put(b"RD", &[&offset.to_le_bytes()]),
-        Record::Steps { steps } => put(b"ST", &[&steps.to_le_bytes()]),
+        Record::Read { offset } => put(b"RD", &[number, &offset.to_le_bytes()]),
+        Record::Steps { steps } => put(b"ST", &[number, &steps.to_le_bytes()]),
         Record::Bus(Bus { bits, length, size, burst, cache, prot, qos, region, id, address }) => {
             let fields = [*bits, *length, *size, *burst, *cache, *prot, *qos, *region];
             put(b"AR", &[&fields, &id.to_le_bytes(), &address.to_le_bytes()]);

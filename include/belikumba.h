@@ -181,6 +181,9 @@ enum belikumba_status {
  *
  * A fresh engine has its width and beats and 0 in all other words: uint32_t engine[BELIKUMBA_ENGINE_WORDS] = {4, 16};
  *
+ * Two engines that share a memory are two such lists; each call is lent the one that it is for, and memory and windows as
+ * they stand. They may take their steps in any order. host/two_engines.c has an example.
+ *
  * Any numbers may be lent. Words that no engine has, and those of an engine that is not well formed, get answer 9.
  * Each engine has one list of words: two engines are the same if their words are.
  */

@@ -8,6 +8,7 @@ use crate::edges;
 use crate::joined;
 use crate::large;
 use crate::lone_calls::lone_calls;
+use crate::pairs;
 use crate::plans;
 use crate::queue_edges;
 use crate::sessions::session;
@@ -39,7 +40,7 @@ const ONCE: [(&str, Case); 19] = [
 ];
 
 /// Families of random cases, in turn.
-const RANDOM: [(&str, Case); 7] = [
+const RANDOM: [(&str, Case); 8] = [
     ("session", session),
     ("lone calls", lone_calls),
     ("session", session),
@@ -47,6 +48,7 @@ const RANDOM: [(&str, Case); 7] = [
     ("session", session),
     ("plans", plans::plans),
     ("runs joined", joined::joined),
+    ("two engines", pairs::pairs),
 ];
 
 /// How many cases come before the random ones.

@@ -17,6 +17,7 @@ mod monitor_desk;
 mod observe;
 mod observe_clocks;
 mod observe_steps;
+mod pairs;
 mod plans;
 mod queue_edges;
 mod queues;

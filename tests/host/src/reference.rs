@@ -80,7 +80,7 @@ pub fn step(words: &mut EngineWords, memory: &mut [u8], windows: &[u32]) -> Step
 }
 
 /// An answer and the numbers that are told of an event.
-fn told(answer: u32, event: Event) -> Stepped {
+pub fn told(answer: u32, event: Event) -> Stepped {
     let (event, first, second) = match event {
         Event::None => (0, 0, 0),
         Event::Fetch { current } => (1, current, 0),

@@ -36,7 +36,8 @@ pub const RECORDS: &[&str] = &[
     "engine number that is none beside answer 10",
     "engine number that is none beside an old number",
     "engine number that is none beside an offset that is none",
-    "engine number that is none beside an engine in error",
+    "engine number that is none beside a write that busy engines refuse",
+    "engine number that is none beside a write that engines in error refuse",
     "WR refused for its engine number",
     "RD refused for its engine number",
     "ST refused for its engine number",
@@ -343,8 +344,15 @@ fn no_engine(replay: &Replay, number: u8, record: &Record<&[u8]>, coverage: &mut
     coverage.see(row);
     let none = offset.is_some_and(|offset| none_at(u32::from(offset)));
     coverage.see_if(none, "engine number that is none beside an offset that is none");
-    let error = replay.engines.iter().any(Engine::in_error);
-    coverage.see_if(error, "engine number that is none beside an engine in error");
+    if let Record::Write { offset, value } = record {
+        // What either of them would answer.
+        let answers =
+            replay.engines.clone().map(|mut engine| engine.write((*offset).into(), *value));
+        let row = "engine number that is none beside a write that busy engines refuse";
+        coverage.see_if(answers == [answer::BUSY; 2], row);
+        let row = "engine number that is none beside a write that engines in error refuse";
+        coverage.see_if(answers == [answer::ERROR; 2], row);
+    }
 }
 
 fn bytes(start: u32, count: u32) -> Bytes {

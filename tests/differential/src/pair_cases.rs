@@ -152,12 +152,20 @@ fn engine_numbers() -> Vec<Vec<u8>> {
             // and what the record itself would get comes after.
             (3, read(engine, 3)),
             (3, write(engine, 3, 0)),
+            (3, write(engine, SA, 7)),
             (3, write(engine, BTT, 7)),
             (3, write(engine, CDMACR, RESET)),
         ] {
-            // Engine 1 is in error by a BTT of zero.
-            let start = [(0, settings(4, 16)), (2, write(1, BTT, 0))];
-            all.push(numbered_as(&[&start[..], &[(number, record), (9, read(1, SA))]].concat()));
+            // Both engines are in error by a BTT of zero, or busy.
+            for count in [0, 7] {
+                all.push(numbered_as(&[
+                    (0, settings(4, 16)),
+                    (1, write(1, BTT, count)),
+                    (2, write(2, BTT, count)),
+                    (number, record.clone()),
+                    (9, read(1, SA)),
+                ]));
+            }
         }
     }
     for engine in [0, 1, 2, 3] {

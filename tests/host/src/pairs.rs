@@ -136,7 +136,10 @@ impl Alone {
             }
             // What is written alone is written here, and nothing else.
             for &at in &self.footprint(place).writes {
-                memory.cells_mut()[at as usize] = self.ends[place].memory.cells()[at as usize];
+                let Some(byte) = self.ends[place].memory.cells().get(at as usize) else {
+                    return Err(format!("engine {} writes byte {at}, which is none", place + 1));
+                };
+                memory.cells_mut()[at as usize] = *byte;
             }
         }
         match end.memory.difference(&memory) {

@@ -5,7 +5,7 @@ use independent::engine::{Phase, Transfer};
 
 use crate::copies::peek;
 use crate::families::play;
-use crate::maker::Maker;
+use crate::maker::{Maker, MEMORY};
 use crate::pokes::{interject, look, poke, ready, run};
 use crate::{chains, queues};
 use shared::record::descriptor;
@@ -140,7 +140,7 @@ fn cross(maker: &mut Maker) {
             let count = maker.random.pick(&[1, 4, 4, 32, 60]);
             let source = maker.sound_place(count);
             let bytes = maker.random.bytes(count);
-            maker.memory(source.min(crate::maker::MEMORY - count), bytes);
+            maker.memory(source.min(MEMORY - count), bytes);
             maker.start_copy(source, met, count);
         }
         _ => {
@@ -162,7 +162,7 @@ fn redirect(maker: &mut Maker) {
     let place = if other.phase == Phase::Fetch { other.current } else { other.held_next };
     let next = if maker.random.chance(50) { place } else { maker.descriptor_place() };
     let destination = maker.random.u32();
-    let source = maker.random.pick(&[u32::MAX, crate::maker::MEMORY, crate::maker::MEMORY - 1]);
+    let source = maker.random.pick(&[u32::MAX, MEMORY, MEMORY - 1]);
     let cargo = maker.anywhere(32);
     maker.memory(cargo, descriptor(next, source, destination, 2, 0, 0));
     maker.start_copy(cargo, place, 32);

@@ -338,6 +338,7 @@ fn see_apart(alone: &Alone, coverage: &mut Coverage) {
     coverage.see_if(mixed, "apart, a simple transfer and a chain");
     coverage.see_if(moved(0, true) && moved(1, true), "apart, chains of both");
     let both = !first.writes.is_empty() && !second.writes.is_empty();
+    coverage.see_if(both, "apart, both write");
     coverage.see_if(both && meet(&first.reads, &second.reads), "apart, both read one byte");
     let sides = |place: usize| alone.steps[place].iter().any(|taken| fixed(&taken.before));
     coverage.see_if(both && sides(0) != sides(1), "apart, a fixed side of one engine alone");

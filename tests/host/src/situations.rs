@@ -164,6 +164,7 @@ pub const SITUATIONS: &[(&str, &[&str])] = &[
             "apart, simple transfers of both",
             "apart, a simple transfer and a chain",
             "apart, chains of both",
+            "apart, both write",
             "apart, both read one byte",
             "apart, a fixed side of one engine alone",
             "apart, one judges what the other writes",

@@ -188,7 +188,18 @@ pub fn records(
         }
         Body::Read { offset } => effect::register_read(session, sequence, offset),
         Body::Steps { count } => effect::steps(session, sequence, count),
-        Body::Astray => effect::bad(session, Answer::Engine, position),
+        Body::Astray => {
+            return refuse(
+                session,
+                Answer::Engine,
+                position,
+                next,
+                leading,
+                padded,
+                out,
+                put,
+            );
+        }
         Body::Clock { bits, clock } => {
             return clocks(
                 session,

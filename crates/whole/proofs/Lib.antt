@@ -4,4 +4,5 @@ pub mod Measure
 pub mod Parts
 pub mod Progress
 pub mod Sound
+pub mod Engines
 pub mod Cases

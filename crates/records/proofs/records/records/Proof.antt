@@ -56,8 +56,7 @@ applied c o =
     (⊎-elim (λ w. joined (w .9) (w .7) (w .8) ∙ w .4 .ensures (now (a .windows)) o ∙ sym (ap does (w .1 .given .1)))
     (⊎-elim (λ w. joined (w .9) (w .7) (w .8) ∙ w .4 .ensures (now (a .memory)) o ∙ sym (ap does (w .1 .given .1)))
     (⊎-elim (λ w. joined (w .6 ∙ w .3 .ensures) (w .4) (w .5) ∙ sym (ap does (w .1 .given .1)))
-    (⊎-elim (λ w. joined (w .6 ∙ w .3 .ensures) (w .4) (w .5) ∙ sym (ap does (w .1 .given .1)))
-    (λ w. joined (w .5 ∙ w .2 .ensures) (w .3) (w .4) ∙ sym (ap does (w .1 .given .1)))))))
+    (λ w. joined (w .6 ∙ w .3 .ensures) (w .4) (w .5) ∙ sym (ap does (w .1 .given .1))))))
     (c .match2 .came)
 
 add-position : tie.Need-add-position
@@ -160,8 +159,20 @@ steps-requires c κs = search needs
 enum-told-2 : tie.Need-enum-told-2
 enum-told-2 c = search needs
 
-bad-requires : tie.Need-bad-requires
-bad-requires c κs = search needs
+refuse-requires-3 : tie.Need-refuse-requires-3
+refuse-requires-3 c κs = let pre = c .before .before .before .before .before .before .before .before .before .before .before .before .before .before .pre in (pre .1 .1 .1 .0, pre .1 .1 .1 .1)
+
+same-length-4 : tie.Need-same-length-4
+same-length-4 c = puts-length (c .before .before .refuse3 .ensures .puts)
+
+-- there is no such engine
+returns-4 : tie.Need-returns-4
+unfolding applyOf
+returns-4 c =
+    let a = c .before .before .before .before .before .before .before .before .before .before .before .before .before .before .before .before .before .args in
+    λ o. takes-single (order (c .before .before .before .before .before .before))
+    (sym (ap (applyOf (a .session) (c .before .before .before .before .before .before .before .before .before .reading .given .0 .0 .sequence) (a .base + a .at) (now (a .input)) (a .at) (lend (now (a .memory)) (now (a .windows)) o)) (c .before .before .before .before .enum-told2 .given .1)))
+    (c .before .before .before .before .before .before .before .before .before .before .before .before .before .before .before .before .before .pre .1 .1 .1 .1) (c .before .before .refuse3 .ensures)
 
 enum-known-body-7 : tie.Need-enum-known-body-7
 enum-known-body-7 c = search needs
@@ -173,11 +184,11 @@ clocks-requires c κs =
       (c .before .before .before .before .before .before .before .before .before .before .before .before .before .before .before .pre .1 .0 .1, (c .before .before .before .before .before .before .before .before .before .before .before .before .before .before .before .pre .1 .1 .1 .0, c .before .before .before .before .before .before .before .before .before .before .before .before .before .before .before .pre .1 .1 .1 .1)),
     )
 
-same-length-4 : tie.Need-same-length-4
-same-length-4 c = let a = c .before .before .before .before .before .before .before .before .before .before .before .before .before .before .before .before .before .before .args in puts-length (c .before .before .clocks .ensures (lend (now (a .memory)) (now (a .windows)) (a .session .engine)) .puts)
+same-length-5 : tie.Need-same-length-5
+same-length-5 c = let a = c .before .before .before .before .before .before .before .before .before .before .before .before .before .before .before .before .before .before .args in puts-length (c .before .before .clocks .ensures (lend (now (a .memory)) (now (a .windows)) (a .session .engine)) .puts)
 
-returns-4 : tie.Need-returns-4
-returns-4 c = let a = c .before .before .before .before .before .before .before .before .before .before .before .before .before .before .before .before .before .before .args in λ o. c .before .before .clocks .ensures (lend (now (a .memory)) (now (a .windows)) o)
+returns-5 : tie.Need-returns-5
+returns-5 c = let a = c .before .before .before .before .before .before .before .before .before .before .before .before .before .before .before .before .before .before .args in λ o. c .before .before .clocks .ensures (lend (now (a .memory)) (now (a .windows)) o)
 
 tell-requires : tie.Need-tell-requires
 tell-requires c κs = (c .before .before .before .before .before .before .before .before .before .before .before .before .before .pre .1 .1 .1 .0, c .before .before .before .before .before .before .before .before .before .before .before .before .before .pre .1 .1 .1 .1)
@@ -190,17 +201,17 @@ lengths c o =
     (apply-lengths (a .session) (a .base + a .at) (now (a .input)) (a .at) (lend (now (a .memory)) (now (a .windows)) o)
     (c .before .before .before .before .reading .given .0 .0 .sequence) (c .before .before .before .before .reading .given .0 .0 .body))
 
-same-length-5 : tie.Need-same-length-5
-same-length-5 c = lengths (c .before .before .before .before) (c .before .before .before .before .before .before .before .before .before .before .before .before .before .before .before .before .args .session .engine) .memory
-
 same-length-6 : tie.Need-same-length-6
-same-length-6 c = lengths (c .before .before .before .before) (c .before .before .before .before .before .before .before .before .before .before .before .before .before .before .before .before .args .session .engine) .windows
+same-length-6 c = lengths (c .before .before .before .before) (c .before .before .before .before .before .before .before .before .before .before .before .before .before .before .before .before .args .session .engine) .memory
 
 same-length-7 : tie.Need-same-length-7
-same-length-7 c = puts-length (c .before .before .tell .ensures .puts)
+same-length-7 c = lengths (c .before .before .before .before) (c .before .before .before .before .before .before .before .before .before .before .before .before .before .before .before .before .args .session .engine) .windows
 
-returns-5 : tie.Need-returns-5
-returns-5 c = λ o. takes-single (order (c .before .before .before .before .before)) (applied (c .before .before .before .before) o) (c .before .before .before .before .before .before .before .before .before .before .before .before .before .before .before .before .pre .1 .1 .1 .1) (c .before .before .tell .ensures)
+same-length-8 : tie.Need-same-length-8
+same-length-8 c = puts-length (c .before .before .tell .ensures .puts)
+
+returns-6 : tie.Need-returns-6
+returns-6 c = λ o. takes-single (order (c .before .before .before .before .before)) (applied (c .before .before .before .before) o) (c .before .before .before .before .before .before .before .before .before .before .before .before .before .before .before .before .pre .1 .1 .1 .1) (c .before .before .tell .ensures)
 
 pub records-spec : {M : Type 1} → statement M
 records-spec =
@@ -234,13 +245,15 @@ records-spec =
     enum-known-body-6
     steps-requires
     enum-told-2
-    bad-requires
-    enum-known-body-7
-    clocks-requires
+    refuse-requires-3
     same-length-4
     returns-4
-    tell-requires
+    enum-known-body-7
+    clocks-requires
     same-length-5
+    returns-5
+    tell-requires
     same-length-6
     same-length-7
-    returns-5)
+    same-length-8
+    returns-6)

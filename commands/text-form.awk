@@ -10,7 +10,7 @@ END {
     for (i = 1; i <= count && !found; i++) {
         sub(/^[ \t\r]+/, "", lines[i])
         if (lines[i] ~ /^#/) seen = 1
-        else if (lines[i] != "") found = lines[i] ~ /^(CF|MM|SW|WR|RD|ST|AR)[ \t]+[0-9]/ || lines[i] ~ /^RAW[ \t]/ ? 1 : 2
+        else if (lines[i] != "") found = lines[i] ~ /^(CF|C2|MM|SW|WR|RD|ST|AR)[ \t]+[0-9]/ || lines[i] ~ /^RAW[ \t]/ ? 1 : 2
     }
     exit other || !(found == 1 || (seen && !found))
 }

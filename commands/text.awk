@@ -116,14 +116,21 @@ function bus(start,    text, field) {
     line(text " address=" hex(18, 4), clock())
 }
 
-function record(mark,    start) {
+# The engine number of a WR, RD or ST, in a trace of two engines.
+function engine() { return two_engines ? " engine=" at(6) : "" }
+function no_engine() { return two_engines && at(6) != 1 && at(6) != 2 ? "there is no engine " at(6) "; " : "" }
+
+# In a trace of two engines the body of a WR, RD or ST is one byte further on.
+function record(mark,    start, body) {
     start = mark " " decimal(number(2, 4))
+    body = 6 + two_engines
     if (mark == "CF") line(start " " number(6, 2) " " number(8, 2), "width " number(6, 2) " bytes, " number(8, 2) " beats")
+    else if (mark == "C2") line(start " " number(6, 2) " " number(8, 2), "two engines, width " number(6, 2) " bytes, " number(8, 2) " beats")
     else if (mark == "MM") memory(start)
     else if (mark == "SW") line(start " " hex(6, 4) " " hex(10, 4), several(decimal(number(10, 4)), "byte") " from " decimal(number(6, 4)) ", faulty")
-    else if (mark == "WR") line(start " " offset(6) " " hex(8, 4), written(number(6, 2), number(8, 4)))
-    else if (mark == "RD") line(start " " offset(6), register(number(6, 2)))
-    else if (mark == "ST") line(start " " number(6, 2), "up to " several(number(6, 2), "step"))
+    else if (mark == "WR") line(start engine() " " offset(body) " " hex(body + 2, 4), no_engine() written(number(body, 2), number(body + 2, 4)))
+    else if (mark == "RD") line(start engine() " " offset(body), no_engine() register(number(body, 2)))
+    else if (mark == "ST") line(start engine() " " number(body, 2), no_engine() "up to " several(number(body, 2), "step"))
     else bus(start)
 }
 
@@ -166,7 +173,8 @@ BEGIN {
     for (i = 0; i < 256; i++) two[i] = substr("0123456789abcdef", int(i / 16) + 1, 1) substr("0123456789abcdef", i % 16 + 1, 1)
     for (i = 0; i < 26; i++) letter[65 + i] = substr("ABCDEFGHIJKLMNOPQRSTUVWXYZ", i + 1, 1)
     for (i = 0; i < 32; i++) power[i] = i == 0 ? 1 : power[i - 1] * 2
-    sizes["CF"] = 10; sizes["MM"] = 12; sizes["SW"] = 14; sizes["WR"] = 12; sizes["RD"] = 8; sizes["ST"] = 8; sizes["AR"] = 22
+    letter[50] = "2"
+    sizes["CF"] = 10; sizes["C2"] = 10; sizes["MM"] = 12; sizes["SW"] = 14; sizes["WR"] = 12; sizes["RD"] = 8; sizes["ST"] = 8; sizes["AR"] = 22
     names[0] = "CDMACR"; names[4] = "CDMASR"; names[8] = "CURDESC"; names[16] = "TAILDESC"
     names[24] = "SA"; names[32] = "DA"; names[40] = "BTT"
     names[12] = "CURDESC upper half"; names[20] = "TAILDESC upper half"; names[28] = "SA upper half"; names[36] = "DA upper half"
@@ -176,10 +184,17 @@ BEGIN {
     tail = 0
     before = 0
     lost = 0
+    two_engines = 0
     print "# A trace as text: ./belikumba trace makes the trace again. After each # is the record's position."
 }
 
-NR == 1 && ($1 != 67 || $2 != 70) { print "# No CF at its start: width 4 and 64 beats, or 16 on an older board; see ./belikumba help convert." }
+NR == 1 && $1 == 67 && $2 == 50 {
+    two_engines = 1
+    sizes["WR"]++; sizes["RD"]++; sizes["ST"]++
+}
+NR == 1 && !two_engines && ($1 != 67 || $2 != 70) {
+    print "# No CF at its start: width 4 and 64 beats, or 16 on an older board; see ./belikumba help convert."
+}
 
 # The bytes of this line, behind what was left of the last one; `before` bytes of the trace came before the first of them.
 {

@@ -86,6 +86,16 @@ function bus(    count, at, names) {
     word(given("id"), "id"); word(given("address"), "address")
 }
 
+# WR, RD and ST carry an engine number, engine=2 behind the sequence number, in a trace that starts with C2, and in no other.
+# What starts with RAW may be either.
+function carries(    engine) {
+    if (!($1 in chosen)) return 0
+    engine = $3 ~ /^engine=/
+    if (starts != "RAW" && engine != (starts == "C2"))
+        fail((engine ? shape[$1] : chosen[$1]) ", since the text " (engine ? "does not start" : "starts") " with C2")
+    return engine
+}
+
 BEGIN {
     for (i = 0; i < 256; i++) {
         text = substr("0123456789abcdef", int(i / 16) + 1, 1) substr("0123456789abcdef", i % 16 + 1, 1)
@@ -93,39 +103,52 @@ BEGIN {
         if (i < 16) byte[substr(text, 2)] = i
     }
     shape["CF"] = "CF SEQUENCE WIDTH BEATS"; marks["CF"] = " 67 70"; parts["CF"] = 4
+    shape["C2"] = "C2 SEQUENCE WIDTH BEATS"; marks["C2"] = " 67 50"; parts["C2"] = 4
     shape["MM"] = "MM SEQUENCE ADDRESS BYTES.. or MM SEQUENCE ADDRESS NAME=NUMBER.."; marks["MM"] = " 77 77"; parts["MM"] = 0
     shape["SW"] = "SW SEQUENCE START LENGTH"; marks["SW"] = " 83 87"; parts["SW"] = 4
     shape["WR"] = "WR SEQUENCE OFFSET VALUE"; marks["WR"] = " 87 82"; parts["WR"] = 4
     shape["RD"] = "RD SEQUENCE OFFSET"; marks["RD"] = " 82 68"; parts["RD"] = 3
     shape["ST"] = "ST SEQUENCE STEPS"; marks["ST"] = " 83 84"; parts["ST"] = 3
     shape["AR"] = "AR SEQUENCE NAME=NUMBER.."; marks["AR"] = " 65 82"; parts["AR"] = 0
+    chosen["WR"] = "WR SEQUENCE engine=NUMBER OFFSET VALUE"
+    chosen["RD"] = "RD SEQUENCE engine=NUMBER OFFSET"
+    chosen["ST"] = "ST SEQUENCE engine=NUMBER STEPS"
+    starts = ""
 }
 
 # A text from Windows has a mark in front, and CR before each line feed.
 FNR == 1 { sub(/^\357\273\277/, "") }
+
+# The first line that text.awk prints: texts may stand one after the other.
+/^# A trace as text:/ { starts = "" }
 {
     sub(/\r$/, "")
     sub(/#.*/, "")
 }
 NF == 0 { next }
+starts == "" { starts = $1 }
 $1 == "RAW" {
     count_data(2)
     put_data(2)
     print ""
     next
 }
-!($1 in marks) { fail("CF, MM, SW, WR, RD, ST, AR or RAW at the start of a line, and not '" $1 "'") }
-NF < 2 || (parts[$1] && NF != parts[$1]) || ($1 == "MM" && NF < 3) { fail(shape[$1] ", and not " NF " parts") }
+!($1 in marks) { fail("CF, C2, MM, SW, WR, RD, ST, AR or RAW at the start of a line, and not '" $1 "'") }
+{ engine = carries() }
+NF < 2 || (parts[$1] && NF != parts[$1] + engine) || ($1 == "MM" && NF < 3) {
+    fail((engine ? chosen[$1] : shape[$1]) ", and not " NF " parts")
+}
 {
     printf "%s", marks[$1]
     word($2, "sequence number")
+    if (engine) put(number(substr($3, 8), 255, "engine"), 1)
 }
-$1 == "CF" { half($3, "width"); half($4, "beats") }
+$1 == "CF" || $1 == "C2" { half($3, "width"); half($4, "beats") }
 $1 == "MM" { memory() }
 $1 == "SW" { word($3, "start"); word($4, "length") }
-$1 == "WR" { half($3, "offset"); word($4, "value") }
-$1 == "RD" { half($3, "offset") }
-$1 == "ST" { half($3, "steps") }
+$1 == "WR" { half($(3 + engine), "offset"); word($(4 + engine), "value") }
+$1 == "RD" { half($(3 + engine), "offset") }
+$1 == "ST" { half($(3 + engine), "steps") }
 $1 == "AR" { bus() }
 { print "" }
 END { if (failed) exit 2 }

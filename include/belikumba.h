@@ -20,6 +20,8 @@
  *     if (status & BELIKUMBA_CDMASR_IOC_IRQ) puts("copied");
  *     if (status & BELIKUMBA_CDMASR_ERRORS) puts("failed");
  *
+ * Two engines on one memory are two such arrays, and each step or run is lent that memory, one call at a time (RULES.md 11).
+ *
  * Build: cc -Iinclude program.c target/host/libbelikumba.a, or after `./belikumba lib --prefix DIR` with pkg-config belikumba.
  */
 #ifndef BELIKUMBA_H

@@ -16,6 +16,8 @@ functions behind this module in include/belikumba.h.
     engine.read(Register.CDMASR) & Status.IOC_IRQ
     memory[4088:4104]
 
+Two engines on one memory are two objects, and each step or run is given that memory, one call at a time (RULES.md 11).
+
 A call that is refused raises Refused, which carries the answer, and changes nothing. The library is looked for in the
 environment's BELIKUMBA_LIBRARY, in target/host beside this folder, and where the system looks for libraries.
 """

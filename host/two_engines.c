@@ -66,18 +66,28 @@ static void show_copied(struct board board, uint32_t to, uint32_t bytes) {
     failed |= !same;
 }
 
-static void step_in_turn(engine_words *engines, struct board board) {
-    puts("a step of each in turn");
+/* Each engine that is busy makes its call in turn, until both are idle: a step, or a run of so many. */
+static void take_turns(engine_words *engines, struct board board, uint32_t run) {
     fill_memory(board);
     start_both(engines);
     while (busy(engines[0]) || busy(engines[1])) {
         for (int place = 0; place < 2; place++) {
-            if (busy(engines[place])) {
-                name(place);
+            if (!busy(engines[place])) {
+                continue;
+            }
+            name(place);
+            if (run == 0) {
                 show_step(engines[place], board);
+            } else {
+                show_run(engines[place], board, run);
             }
         }
     }
+}
+
+static void step_in_turn(engine_words *engines, struct board board) {
+    puts("a step of each in turn");
+    take_turns(engines, board, 0);
     show_copied(board, COPY_1, BLOCK_BYTES);
     show_copied(board, COPY_2, COPY_2_BYTES);
     memcpy(after_steps, board.memory, board.bytes);
@@ -86,16 +96,7 @@ static void step_in_turn(engine_words *engines, struct board board) {
 /* The same copies in another order of the same steps: not only the copies but all bytes are as after single steps. */
 static void run_in_turn(engine_words *engines, struct board board) {
     puts("runs of three steps in turn");
-    fill_memory(board);
-    start_both(engines);
-    while (busy(engines[0]) || busy(engines[1])) {
-        for (int place = 0; place < 2; place++) {
-            if (busy(engines[place])) {
-                name(place);
-                show_run(engines[place], board, 3);
-            }
-        }
-    }
+    take_turns(engines, board, 3);
     int same = memcmp(board.memory, after_steps, board.bytes) == 0;
     puts(same ? "memory as after single steps" : "other memory than after single steps");
     failed |= !same;

@@ -20,8 +20,6 @@
  *     if (status & BELIKUMBA_CDMASR_IOC_IRQ) puts("copied");
  *     if (status & BELIKUMBA_CDMASR_ERRORS) puts("failed");
  *
- * Two engines on one memory are two such arrays, and each step or run is lent that memory, one call at a time (RULES.md 11).
- *
  * Build: cc -Iinclude program.c target/host/libbelikumba.a, or after `./belikumba lib --prefix DIR` with pkg-config belikumba.
  */
 #ifndef BELIKUMBA_H
@@ -184,7 +182,8 @@ enum belikumba_status {
  * A fresh engine has its width and beats and 0 in all other words: uint32_t engine[BELIKUMBA_ENGINE_WORDS] = {4, 16};
  *
  * Two engines that share a memory are two such lists; each call is lent the one that it is for, and memory and windows as
- * they stand. They may take their steps in any order. host/two_engines.c has an example.
+ * they stand, one call at a time. If one writes what the other reads or writes, the order of their steps matters; else it does
+ * not (RULES.md 11). host/two_engines.c has an example.
  *
  * Any numbers may be lent. Words that no engine has, and those of an engine that is not well formed, get answer 9.
  * Each engine has one list of words: two engines are the same if their words are.

@@ -5,19 +5,23 @@ use mathlib.Core.Bool.{Bool, true, false}
 use mathlib.Core.List.{List}
 use native.Mathlib.Omega.{arith}
 use lib.ListN.{length, take}
-use lib.Dec.{eqb, leb}
+use lib.Dec.{eqb, leb, ltb}
+use Rattle.kit.specs.Limits.{mostWindows}
 use Rattle.kit.specs.Settings.{legalSettings}
 use Rattle.kit.specs.declared.settings.Settings.{Settings as Settings′}
 use Rattle.kit.proofs.Choice.{yes, no, cases, never}
 use Rattle.memory.specs.Windows.{windowsOf}
+use Rattle.monitor.specs.Monitor.{busClockOf}
 use Rattle.state.specs.declared.engine.Engine.{Engine}
 use Rattle.state.specs.State.{freshOf}
 use Rattle.registers.specs.Write.{writeOf}
 use Rattle.registers.proofs.Writes.{write-keeps-settings}
 use Rattle.steps.proofs.Keeps.{advance-keeps}
 use Rattle.record.specs.declared.reading.Body.{Body}
-use Rattle.record.specs.declared.reading.Body.the-variants.{Settings, Write, Read, Steps}
-use Rattle.record.specs.declared.reading.Reading.the-variants.{Found}
+use Rattle.record.specs.declared.reading.Body.the-variants.{Settings, Memory, Window, Write, Read, Steps, Astray, Clock}
+use Rattle.record.specs.declared.reading.Record.{Record}
+use Rattle.record.specs.declared.reading.Reading.{Reading}
+use Rattle.record.specs.declared.reading.Reading.the-variants.{Found, Refused}
 use Rattle.record.specs.Reading.{readingOf}
 use Rattle.record.specs.Names.{namesOf}
 use Rattle.record.proofs.Naming.{named-once}
@@ -29,11 +33,11 @@ use Rattle.session.specs.declared.Effect.{Effect}
 use Rattle.session.specs.Chosen.{twoOf, turnedOf, calledOf, withSettings}
 use Rattle.session.specs.Effect.{Lent, After, after, withChosen}
 use Rattle.session.specs.Stepping.{usedOf, stopsOf, acceptedOf, stepLineOf}
-use Rattle.session.specs.Turn.{turnAs, applyOf, staleOf, recordBy}
+use Rattle.session.specs.Turn.{Turn, turnAs, applyOf, staleOf, recordBy}
 use Rattle.session.specs.Pass.{Replay, replayAs, recordOn, stepOn, swapped, handed, nextOn, turnBy, turnOn}
 use Rattle.session.proofs.Turns.{both-no}
 use Rattle.whole.specs.Listing.{atStart}
-use Rattle.whole.specs.Engines.{firstBy, secondBy, otherOf, firstOf, secondOf, NextFor, Keeps, Engines}
+use Rattle.whole.specs.Engines.{firstBy, secondBy, otherOf, firstOf, secondOf, changesEngine, NextFor, Keeps, Engines}
 
 -- the chosen engine of a replay, and the other one
 record Has (t : Replay) (c : Chosen) (e o : Engine) : Type 0 where
@@ -86,6 +90,11 @@ turned-two Only e = e
 turned-two First e = e
 turned-two Second e = e
 
+choice-keeps : (input : List ℕ) (r : Replay) → twoOf (r .session .chosen) ≡ true → Keeps r (handed input r)
+choice-keeps input r two =
+    cases (Keeps r) (calledOf (r .session .chosen) input (r .at)) (λ _. swapped-keeps (r .session) (r .at) (r .lent) (r .text) (r .session .chosen) two)
+    (λ _. record { first = refl; second = refl })
+
 -- ---- a record
 
 module _ (base : ℕ) (input : List ℕ) (sequence : ℕ) (body : Body) where
@@ -116,9 +125,7 @@ module _ (base : ℕ) (input : List ℕ) (sequence : ℕ) (body : Body) where
     turn-applied = ap (turnBy base input r) (q .mode) ∙ next-applied (q .next) (handed input r) ready-handed
 
     handed-keeps : Keeps r (handed input r)
-    handed-keeps =
-        cases (Keeps r) (calledOf (r .session .chosen) input (r .at)) (λ _. swapped-keeps (r .session) (r .at) (r .lent) (r .text) (r .session .chosen) (q .two))
-        (λ _. record { first = refl; second = refl })
+    handed-keeps = choice-keeps input r (q .two)
 
 -- the engine that a record for engine 1, and one for engine 2, finds chosen
 handed-first : {base : ℕ} {input : List ℕ} {sequence : ℕ} {body : Body} (r : Replay) → NextFor 1 base input r sequence body
@@ -146,18 +153,58 @@ module _ (base : ℕ) (input : List ℕ) (r : Replay) (n sequence : ℕ) where
         other = ap (λ (x : Settings′). withSettings x (y .lent .other)) (write-keeps-settings (y .session .engine) offset value) ∙ h .other;
       })
 
-  reads : (offset : ℕ) → NextFor n base input r sequence (Read offset) → Keeps r (turnOn base input r)
-  unfolding applyOf
-  reads offset q =
-      subst (Keeps r) (sym (turn-applied base input sequence (Read offset) r q))
-      (both-keep (handed-keeps base input sequence (Read offset) r q) (record { first = refl; second = refl }))
-
   begins : (count : ℕ) → NextFor n base input r sequence (Steps count) → {c : Chosen} → handed input r .session .chosen ≡ c
       → let t = turnOn base input r in Keeps r t × (t .session .mode ≡ modes.Steps count 0) × (t .session .chosen ≡ c)
   unfolding applyOf
   begins count q {c} e =
       subst (λ (t : Replay). Keeps r t × (t .session .mode ≡ modes.Steps count 0) × (t .session .chosen ≡ c)) (sym (turn-applied base input sequence (Steps count) r q))
       (both-keep (handed-keeps base input sequence (Steps count) r q) (record { first = refl; second = refl }), refl, e)
+
+-- ---- every other record
+
+module _ (base : ℕ) (input : List ℕ) (y : Replay) where
+  abbrev Stays : ℕ → After → Type 0
+  Stays next a = Keeps y (recordOn y (turnAs a next))
+
+  apply-keeps : (n next : ℕ) (b : Body) → changesEngine b ≡ false → Stays next (applyOf (y .session) n (base + y .at) input (y .at) (y .lent) b)
+  unfolding applyOf
+  apply-keeps n next (Settings two width beats) e = absurd (never (sym e))
+  apply-keeps n next (Memory address count) e =
+      cases (Stays next) (ltb (length (y .lent .memory)) (address + count)) (λ _. record { first = refl; second = refl }) (λ _. record { first = refl; second = refl })
+  apply-keeps n next (Window start count) e =
+      cases (Stays next) (leb mostWindows (y .session .windows)) (λ _. record { first = refl; second = refl }) (λ _. record { first = refl; second = refl })
+  apply-keeps n next (Write offset value) e = absurd (never (sym e))
+  apply-keeps n next (Read offset) e = record { first = refl; second = refl }
+  apply-keeps n next (Steps count) e = record { first = refl; second = refl }
+  apply-keeps n next Astray e = record { first = refl; second = refl }
+  apply-keeps n next (Clock bits clock) e =
+      cases (λ (x : Effect). Stays next (after x (y .lent))) (ltb 7 bits) (λ _. record { first = refl; second = refl })
+      (λ _. cases (λ (x : Effect). Stays next (after x (y .lent)))
+      (eqb (busClockOf (y .session .monitor) (y .session .engine .settings .width) (y .session .engine .settings .beats) clock .number) 0)
+      (λ _. record { first = refl; second = refl }) (λ _. record { first = refl; second = refl }))
+
+  record-keeps : (v : Reading) → ((x : Record) (next : ℕ) → v ≡ Found x next → staleOf (y .session .sequence) (x .sequence) (x .body) ≡ false → changesEngine (x .body) ≡ false)
+      → Keeps y (recordOn y (recordBy (y .session) (base + y .at) input (y .at) (y .lent) v))
+  record-keeps Refused h = record { first = refl; second = refl }
+  record-keeps (Found x next) h =
+      cases (λ (t : Turn). Keeps y (recordOn y t)) (staleOf (y .session .sequence) (x .sequence) (x .body)) (λ _. record { first = refl; second = refl })
+      (λ e. apply-keeps (x .sequence) next (x .body) (h x next refl e))
+
+others-keep : (base : ℕ) (input : List ℕ) (r : Replay) → r .session .mode ≡ modes.Records → twoOf (r .session .chosen) ≡ true
+    → ((x : Record) (next : ℕ) → readingOf input (r .at) (eqb (base + r .at) 0) true ≡ Found x next
+    → staleOf (r .session .sequence) (x .sequence) (x .body) ≡ false → changesEngine (x .body) ≡ false)
+    → Keeps r (turnOn base input r)
+unfolding turnOn
+others-keep base input r mode two h =
+    subst (λ (t : Replay). Keeps r t) (sym (ap (turnBy base input r) mode))
+    (both-keep (choice-keeps input r two)
+    (cases (λ (y : Replay). Keeps y (nextOn base input y)) (calledOf (r .session .chosen) input (r .at))
+    (λ _. record-keeps base input (swapped r) (readingOf input (r .at) (eqb (base + r .at) 0) (twoOf (turnedOf (r .session .chosen)))) (seen (twoOf (turnedOf (r .session .chosen))) (turned-two (r .session .chosen) two)))
+    (λ _. record-keeps base input r (readingOf input (r .at) (eqb (base + r .at) 0) (twoOf (r .session .chosen))) (seen (twoOf (r .session .chosen)) two))))
+  where
+    seen : (t : Bool) → t ≡ true → (x : Record) (next : ℕ) → readingOf input (r .at) (eqb (base + r .at) 0) t ≡ Found x next
+        → staleOf (r .session .sequence) (x .sequence) (x .body) ≡ false → changesEngine (x .body) ≡ false
+    seen t e x next f = h x next (sym (ap (readingOf input (r .at) (eqb (base + r .at) 0)) e) ∙ f)
 
 -- ---- a step
 
@@ -207,7 +254,7 @@ engines = record {
       let h = writes base input r 1 sequence offset value q (handed-first r q) in (as-first h, as-second h);
   writes-second = λ base input r sequence offset value q.
       let h = writes base input r 2 sequence offset value q (handed-second r q) in (as-first h, as-second h);
-  reads = reads;
+  others = others-keep;
   steps-first = λ base input r sequence count q. begins base input r 1 sequence count q (handed-first r q .chosen);
   steps-second = λ base input r sequence count q. begins base input r 2 sequence count q (handed-second r q .chosen);
   step-first = λ base input r left taken mode c.

@@ -1,7 +1,7 @@
 -- RULES.md, "Two engines": what the turns of a trace of two engines do to each of them. Proved in proofs/Engines.antt.
 use Prim.Native.Nat.{ℕ, _+_}
 use mathlib.Core.Path.{_≡_}
-use mathlib.Core.Bool.{true, false}
+use mathlib.Core.Bool.{Bool, true, false}
 use mathlib.Core.List.{List}
 use lib.Dec.{eqb}
 use Rattle.kit.specs.Settings.{legalSettings}
@@ -9,7 +9,8 @@ use Rattle.state.specs.declared.engine.Engine.{Engine}
 use Rattle.state.specs.State.{freshOf}
 use Rattle.registers.specs.Write.{writeOf}
 use Rattle.record.specs.declared.reading.Body.{Body}
-use Rattle.record.specs.declared.reading.Body.the-variants.{Settings, Write, Read, Steps}
+use Rattle.record.specs.declared.reading.Body.the-variants.{Settings, Memory, Window, Write, Read, Steps, Astray, Clock}
+use Rattle.record.specs.declared.reading.Record.{Record}
 use Rattle.record.specs.declared.reading.Reading.the-variants.{Found}
 use Rattle.record.specs.Reading.{readingOf}
 use Rattle.record.specs.Names.{namesOf}
@@ -52,6 +53,17 @@ pub record NextFor (n base : ℕ) (input : List ℕ) (r : Replay) (sequence : �
   pub read : readingOf input (r .at) (eqb (base + r .at) 0) true ≡ Found (record { sequence = sequence; body = body }) next
   pub rises : staleOf (r .session .sequence) sequence body ≡ false
 
+-- what a record says changes an engine: settings and a WR; the steps of an ST come after it
+abbrev pub changesEngine : Body → Bool
+changesEngine (Settings two width beats) = true
+changesEngine (Memory address count) = false
+changesEngine (Window start count) = false
+changesEngine (Write offset value) = true
+changesEngine (Read offset) = false
+changesEngine (Steps count) = false
+changesEngine Astray = false
+changesEngine (Clock bits clock) = false
+
 -- both are as they were
 pub record Keeps (r t : Replay) : Type 0 where
   pub first : firstOf t ≡ firstOf r
@@ -68,8 +80,11 @@ pub record Engines : Type 0 where
       → let t = turnOn base input r in (firstOf t ≡ writeOf (firstOf r) offset value .engine) × (secondOf t ≡ secondOf r)
   pub writes-second : (base : ℕ) (input : List ℕ) (r : Replay) (sequence offset value : ℕ) → NextFor 2 base input r sequence (Write offset value)
       → let t = turnOn base input r in (firstOf t ≡ firstOf r) × (secondOf t ≡ writeOf (secondOf r) offset value .engine)
-  -- an RD leaves both as they were
-  pub reads : (base : ℕ) (input : List ℕ) (r : Replay) (n sequence offset : ℕ) → NextFor n base input r sequence (Read offset) → Keeps r (turnOn base input r)
+  -- every other record leaves both as they were, and so does one that is refused, whatever it is
+  pub others : (base : ℕ) (input : List ℕ) (r : Replay) → r .session .mode ≡ modes.Records → twoOf (r .session .chosen) ≡ true
+      → ((x : Record) (next : ℕ) → readingOf input (r .at) (eqb (base + r .at) 0) true ≡ Found x next
+      → staleOf (r .session .sequence) (x .sequence) (x .body) ≡ false → changesEngine (x .body) ≡ false)
+      → Keeps r (turnOn base input r)
   -- an ST leaves both as they were until its steps are taken, and these are its engine's
   pub steps-first : (base : ℕ) (input : List ℕ) (r : Replay) (sequence count : ℕ) → NextFor 1 base input r sequence (Steps count)
       → let t = turnOn base input r in Keeps r t × (t .session .mode ≡ modes.Steps count 0) × (t .session .chosen ≡ First)

@@ -1,4 +1,4 @@
--- Laws of `goodBytes`: every part of the good bytes answers OKAY.
+-- Laws of `goodBytes`: every part of the good bytes answers OKAY, and the byte after them does not.
 use mathlib.Core.Path.{_≡_, refl, sym, ap, _∙_}
 use mathlib.Core.Bool.{Bool, true, false}
 use mathlib.Core.List.{List, [], _∷_}
@@ -7,12 +7,12 @@ use Prim.Native.Nat.{ℕ, zero, suc, _+_, _-_, _≤_, _<_}
 use native.Mathlib.Omega.{arith}
 use lib.ListN.{length, drop, length-drop}
 use lib.Dec.{ltb}
-use borrow.Author.Tests.{le-ltb}
-use Rattle.kit.specs.Choice.{both}
-use Rattle.kit.proofs.Choice.{yes, no, decide, never}
+use borrow.Author.Tests.{lt-ltb, le-ltb, le-leb, ltb-true, ltb-false}
+use Rattle.kit.specs.Choice.{both, either}
+use Rattle.kit.proofs.Choice.{yes, no, decide, never, both-join, either-right}
 use Rattle.memory.specs.declared.window.Window.{Window}
 use Rattle.memory.specs.declared.verdict.Verdict.the-variants.{Okay}
-use Rattle.memory.specs.Windows.{windowsOf}
+use Rattle.memory.specs.Windows.{windowsOf, inside, sick}
 use Rattle.memory.specs.Interval.{touchesOf, hit}
 use Rattle.memory.specs.Verdict.{worse, groupOf, pairOf}
 use Rattle.memory.specs.Good.{nearerEnd, goodEnd, goodBytes}
@@ -65,7 +65,36 @@ unhit (w ∷ ws) a e b f from to = go (unhit ws a (nearerEnd w a e) b f from to)
     go more true h = absurd (missed w a e b f from near h)
     go more false h = sym (no true h (sym more))
 
+-- an end that was brought nearer stands where a window has the first byte that is not good
+end-sick : (ws : List Window) (a e : ℕ) → goodEnd ws a e < e → sick ws (a + (goodEnd ws a e - a)) ≡ true
+unfolding goodEnd sick
+end-sick [] a e h = absurd (omega arith)
+end-sick (w ∷ ws) a e h = go (end-sick ws a (nearerEnd w a e)) (decide (ltb (goodEnd ws a (nearerEnd w a e)) (nearerEnd w a e)))
+  where
+    g : ℕ
+    g = goodEnd ws a (nearerEnd w a e)
+
+    -- this window brought it there
+    here : nearerEnd w a e ≤ g → (t : Bool) → touchesOf w a e ≡ t → inside w (a + (g - a)) ≡ true
+    here l true t =
+        let k = touch w a e t in
+        let s : nearerEnd w a e ≡ w .start = sym (yes e t refl) in
+        let m = end-less ws a (nearerEnd w a e) in
+        both-join (le-leb (w .start) (a + (g - a)) (omega (arith, k .starts, k .ends, k .holds, s, m, l)))
+        (lt-ltb (a + (g - a)) (w .start + w .length) (omega (arith, k .starts, k .ends, k .holds, s, m, l)))
+    here l false t = let s : nearerEnd w a e ≡ e = sym (no (w .start) t refl) in absurd (omega (arith, s, l, h))
+
+    -- it, or a later one
+    go : (g < nearerEnd w a e → sick ws (a + (g - a)) ≡ true) → (ltb g (nearerEnd w a e) ≡ true) ⊎ (ltb g (nearerEnd w a e) ≡ false)
+        → either (inside w (a + (g - a))) (sick ws (a + (g - a))) ≡ true
+    go more (inl t) = sym (either-right (inside w (a + (g - a))) (sym (more (ltb-true g (nearerEnd w a e) t))))
+    go more (inr t) = sym (yes (sick ws (a + (g - a))) (here (ltb-false g (nearerEnd w a e) t) (touchesOf w a e) refl) refl)
+
 module _ (size : ℕ) (ws : List Window) (a : ℕ) where
+  -- the first byte that is not good lies in a window, or past the memory's end
+  pub good-stops : a + goodBytes size ws a < size → sick ws (a + goodBytes size ws a) ≡ true
+  good-stops h = end-sick ws a size (omega arith)
+
   pub good-less : goodBytes size ws a ≤ size
   good-less = let k = end-less ws a size in omega (arith, k)
 

@@ -45,11 +45,11 @@ word-apart w a x d h l e =
 
 -- c bytes from byte k on, f of them up to the word's end
 module _ (w a k c f : ℕ) (some : 0 < w) (short : c ≤ w) (e : f ≡ min c (w - k % w)) where
-  upper : Run (placeOf true w a) k (a + k % w) f
+  pub upper : Run (placeOf true w a) k (a + k % w) f
   upper i l =
       ap (λ (x : ℕ). a + x) (sym (mod-add-mod k w i) ∙ mod-eq-of-lt (omega (arith, mod-lt k some))) ∙ omega arith
 
-  lower : Run (placeOf true w a) (k + f) a (c - f)
+  pub lower : Run (placeOf true w a) (k + f) a (c - f)
   lower i l =
       let turn : k % w + (f + i) ≡ i + w = omega (arith, mod-lt k some) in
       ap (λ (x : ℕ). a + x)

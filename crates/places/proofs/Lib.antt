@@ -1,0 +1,5 @@
+pub mod Claims
+pub mod Groups
+pub mod Holders
+pub mod Lows
+pub mod Words

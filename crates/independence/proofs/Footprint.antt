@@ -24,10 +24,12 @@ use Rattle.state.specs.declared.engine.Transfer.{Transfer}
 use Rattle.state.specs.declared.engine.Outcome.{Outcome}
 use Rattle.state.specs.declared.engine.Phase.{Phase}
 use Rattle.state.specs.declared.engine.Phase.the-variants.{Idle, Fetch, Move, Update}
-use Rattle.state.specs.Bits.{bit, pointer}
+use Rattle.state.specs.declared.engine.ErrorBit.the-variants.{DmaSlvErr, DmaDecErr}
+use Rattle.state.specs.Bits.{bit, pointer, errorBitOf}
 use Rattle.state.specs.Descriptor.{descriptorBytes, nextAt, sourceAt, destinationAt, controlAt, statusAt, complete, countOf, descriptorAt}
+use Rattle.steps.specs.declared.event.Event.the-variants.{Fault}
 use Rattle.steps.specs.declared.event.Advanced.{Advanced}
-use Rattle.steps.specs.Step.{AfterAdvance, readPlace, writePlace, nextBytes, burstAnswer, statusPlace, statusWordOf, fetchBy, moveBurstBy, updateBy, acceptOf, advanceBy, advanceOf}
+use Rattle.steps.specs.Step.{AfterAdvance, readPlace, writePlace, nextBytes, burstAnswer, faultAt, statusPlace, statusWordOf, fetchBy, moveBurstBy, updateBy, acceptOf, advanceBy, advanceOf}
 use Rattle.independence.specs.Footprint.{bytesFrom, placesFrom, ifOkay, readsBy, writesBy, readsOf, writesOf, ChangesOnly, Same, DependsOnly}
 
 -- ---- bytes of a list
@@ -138,13 +140,13 @@ abbrev to : Engine → Transfer → ℕ → ℕ
 to s = writePlace (s .settings) (s .control .keyholewrite)
 
 module _ (s : Engine) (m : List ℕ) (x : ℕ) where
-  move-changes : (t : Transfer) (v : Verdict) → among x (ifOkay v (placesFrom (to s t) (t .moved) (nextBytes s t))) ≡ false
-      → getD (moveBurstBy s t m (nextBytes s t) v .memory) x 0 ≡ getD m x 0
-  move-changes t Okay none =
+  move-changes : (windows : List Window) (t : Transfer) (v : Verdict) → among x (ifOkay v (placesFrom (to s t) (t .moved) (nextBytes s t))) ≡ false
+      → getD (moveBurstBy s t m windows (nextBytes s t) v .memory) x 0 ≡ getD m x 0
+  move-changes windows t Okay none =
       let n = nextBytes s t in
       written-changes (to s t) m (t .moved) (sideRead m (from s t) (t .moved) n) n x (length-read m (from s t) (t .moved) n) none
-  move-changes t Slave none = refl
-  move-changes t Decode none = refl
+  move-changes windows t Slave none = refl
+  move-changes windows t Decode none = refl
 
   update-changes : (o : Outcome) (v : Verdict) → among x (ifOkay v (bytesFrom (statusPlace s) 4)) ≡ false → getD (updateBy s o m v .memory) x 0 ≡ getD m x 0
   update-changes o Okay none =
@@ -158,7 +160,7 @@ module _ (s : Engine) (m : List ℕ) (x : ℕ) where
   phase-changes : (windows : List Window) (p : Phase) → among x (writesBy s (length m) windows p) ≡ false → getD (advanceBy s m windows p .memory) x 0 ≡ getD m x 0
   phase-changes windows Idle none = refl
   phase-changes windows Fetch none = refl
-  phase-changes windows (Move t) none = move-changes t (burstAnswer s t (length m) windows (nextBytes s t)) none
+  phase-changes windows (Move t) none = move-changes windows t (burstAnswer s t (length m) windows (nextBytes s t)) none
   phase-changes windows (Update o) none = update-changes o (groupOf (length m) windows (statusPlace s) 4) none
 
 pub changes-only : ChangesOnly
@@ -178,9 +180,9 @@ module _ (s : Engine) (m m′ : List ℕ) (e : length m ≡ length m′) where
   fetch-agrees Slave h = refl
   fetch-agrees Decode h = refl
 
-  move-agrees : (t : Transfer) (v : Verdict) → Agree m m′ (ifOkay v (placesFrom (from s t) (t .moved) (nextBytes s t)))
-      → Same (ifOkay v (placesFrom (to s t) (t .moved) (nextBytes s t))) (moveBurstBy s t m (nextBytes s t) v) (moveBurstBy s t m′ (nextBytes s t) v)
-  move-agrees t Okay h =
+  move-agrees : (windows : List Window) (t : Transfer) (v : Verdict) → Agree m m′ (ifOkay v (placesFrom (from s t) (t .moved) (nextBytes s t)))
+      → Same (ifOkay v (placesFrom (to s t) (t .moved) (nextBytes s t))) (moveBurstBy s t m windows (nextBytes s t) v) (moveBurstBy s t m′ windows (nextBytes s t) v)
+  move-agrees windows t Okay h =
       let n = nextBytes s t in
       let values = sideRead m (from s t) (t .moved) n in
       record {
@@ -190,8 +192,8 @@ module _ (s : Engine) (m m′ : List ℕ) (e : length m ≡ length m′) where
             written-both (to s t) m m′ (t .moved) values n x e (length-read m (from s t) (t .moved) n) here
             ∙ ap (λ (l : List ℕ). getD (sideWritten m′ (to s t) (t .moved) l) x 0) (read-agrees m m′ (from s t) (t .moved) n h);
       }
-  move-agrees t Slave h = unwritten refl refl
-  move-agrees t Decode h = unwritten refl refl
+  move-agrees windows t Slave h = unwritten (ap (λ (size : ℕ). Fault (faultAt s t size windows (nextBytes s t) Slave) (errorBitOf DmaSlvErr)) e) refl
+  move-agrees windows t Decode h = unwritten (ap (λ (size : ℕ). Fault (faultAt s t size windows (nextBytes s t) Decode) (errorBitOf DmaDecErr)) e) refl
 
   update-agrees : (o : Outcome) (v : Verdict) → Same (ifOkay v (bytesFrom (statusPlace s) 4)) (updateBy s o m v) (updateBy s o m′ v)
   update-agrees o Okay =
@@ -218,8 +220,8 @@ module _ (s : Engine) (m m′ : List ℕ) (e : length m ≡ length m′) where
   phase-agrees windows (Move t) h =
       let n = nextBytes s t in
       let answer : ℕ → Verdict = λ size. burstAnswer s t size windows n in
-      subst (λ (size : ℕ). Same (writesBy s (length m) windows (Move t)) (moveBurstBy s t m n (answer (length m))) (moveBurstBy s t m′ n (answer size))) e
-      (move-agrees t (answer (length m)) h)
+      subst (λ (size : ℕ). Same (writesBy s (length m) windows (Move t)) (moveBurstBy s t m windows n (answer (length m))) (moveBurstBy s t m′ windows n (answer size))) e
+      (move-agrees windows t (answer (length m)) h)
   phase-agrees windows (Update o) h =
       let answer : ℕ → Verdict = λ size. groupOf size windows (statusPlace s) 4 in
       subst (λ (size : ℕ). Same (writesBy s (length m) windows (Update o)) (updateBy s o m (answer (length m))) (updateBy s o m′ (answer size))) e

@@ -9,6 +9,7 @@ use Rattle.cut.specs.Cut.{reach, burstEnd}
 use Rattle.memory.specs.Windows.{sick}
 use Rattle.memory.specs.Verdict.{groupOf}
 use Rattle.sides.specs.Sides.{sideAnswer, sideRead, sideWritten}
+use Rattle.places.specs.Places.{lowestOf}
 use Rattle.state.specs.State.{wellFormedOf}
 use Rattle.reads.specs.Read.{registerOf}
 use Rattle.registers.specs.Write.{registerWrittenOf}
@@ -47,7 +48,7 @@ unfolding legalWidth legalBeats reach burstEnd sick groupOf wellFormedOf registe
 status-worked = record { premise = refl; reads = refl; writes = (refl, refl); oneFirst = refl; twoFirst = refl }
 
 pub judged-worked : JudgedWorked
-unfolding legalWidth legalBeats reach burstEnd sick groupOf wellFormedOf registerWrittenOf acceptOf advanceOf sideAnswer sideRead sideWritten readsOf writesOf aloneOf togetherOf
+unfolding legalWidth legalBeats reach burstEnd sick groupOf wellFormedOf registerWrittenOf acceptOf advanceOf sideAnswer lowestOf sideRead sideWritten readsOf writesOf aloneOf togetherOf
 judged-worked = record { premise = refl; reads = refl; writes = refl; twoFirst = refl; inTurn = refl }
 
 pub fixed-worked : FixedWorked

@@ -183,7 +183,7 @@ onJudged order = togetherOf order three three (started 0 0) (started 64 64) judg
 abbrev pub judgedOutcome : Pair
 judgedOutcome = record {
   first = record {
-    told = event (Fetched 0) ∷ event (Fault 100 5) ∷ event (Updated 0 0x20000000) ∷ [];
+    told = event (Fetched 0) ∷ event (Fault 104 5) ∷ event (Updated 0 0x20000000) ∷ [];
     engine = ended faulty 0 0 64;
   };
   second = record {

@@ -55,8 +55,8 @@ module _ (s : Engine) (m : List ℕ) (windows : List Window) where
         → Advance (advanceSeen (record { event = Fetched (s .pointers .current); engine = fetched }) m)
     moves : (t : Transfer) → s .phase ≡ Move t → judged t ≡ Okay
         → Advance (advanceSeen (afterBurstOf s t (toldAt s t) (nextBytes s t)) (burstMoved s t m (nextBytes s t)))
-    faults : (t : Transfer) → s .phase ≡ Move t → (o : Outcome) → failed o ≡ true → (b : ErrorBit) → errorSetOf b ≡ true
-        → Advance (advanceSeen (afterFaultOf s (toldAt s t) o b) m)
+    faults : {place : ℕ} (t : Transfer) → s .phase ≡ Move t → (o : Outcome) → failed o ≡ true → (b : ErrorBit) → errorSetOf b ≡ true
+        → Advance (advanceSeen (afterFaultOf s place o b) m)
     updates : (o : Outcome) → s .phase ≡ Update o → groupOf (length m) windows (statusPlace s) 4 ≡ Okay
         → Advance (advanceSeen (afterUpdateOf s o (statusWordOf o)) (sets m (statusPlace s) (bytesOf (statusWordOf o))))
 
@@ -67,7 +67,7 @@ module _ (s : Engine) (m : List ℕ) (windows : List Window) where
   fetching e SlaveError _ = halts (ap busyOf e) SgSlvErr refl
   fetching e DecodeError _ = halts (ap busyOf e) SgDecErr refl
 
-  moving : (t : Transfer) → s .phase ≡ Move t → (v : Verdict) → judged t ≡ v → Advance (moveBurstBy s t m (nextBytes s t) v)
+  moving : (t : Transfer) → s .phase ≡ Move t → (v : Verdict) → judged t ≡ v → Advance (moveBurstBy s t m windows (nextBytes s t) v)
   moving t e Okay okay = moves t e okay
   moving t e SlaveError _ = faults t e Slave refl DmaSlvErr refl
   moving t e DecodeError _ = faults t e Decode refl DmaDecErr refl

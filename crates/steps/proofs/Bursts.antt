@@ -57,9 +57,9 @@ burst-fits s t e f = bytes-fit (s .settings) (s .control .keyholewrite) t e f
 
 -- a move by its burst's bytes n and what they answered
 pub move-judged : (s : Engine) (t : Transfer) (m : List ℕ) (windows : List Window) {n : ℕ} {v : Verdict} → n ≡ nextBytes s t
-    → v ≡ burstAnswer s t (length m) windows n → moveBurstBy s t m n v ≡ moveBurstOf s t m windows
+    → v ≡ burstAnswer s t (length m) windows n → moveBurstBy s t m windows n v ≡ moveBurstOf s t m windows
 move-judged s t m windows {n} e f =
-    ap (moveBurstBy s t m n) f ∙ ap (λ (k : ℕ). moveBurstBy s t m k (burstAnswer s t (length m) windows k)) e
+    ap (moveBurstBy s t m windows n) f ∙ ap (λ (k : ℕ). moveBurstBy s t m windows k (burstAnswer s t (length m) windows k)) e
 
 -- ---- its bytes
 

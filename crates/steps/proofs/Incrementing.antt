@@ -1,5 +1,5 @@
 -- A move where neither side is fixed.
-use mathlib.Core.Path.{_≡_, refl, sym, ap, subst, _∙_}
+use mathlib.Core.Path.{_≡_, refl, sym, ap, ap₂, subst, _∙_}
 use mathlib.Core.Bool.{Bool, true, false}
 use mathlib.Core.List.{List}
 use Prim.Native.Nat.{ℕ, _-_}
@@ -11,13 +11,17 @@ use Rattle.memory.specs.declared.verdict.Verdict.{Verdict}
 use Rattle.memory.specs.declared.verdict.Verdict.the-variants.{Okay, Slave as SlaveError, Decode as DecodeError}
 use Rattle.memory.specs.Verdict.{pairOf}
 use Rattle.memory.proofs.Groups.{pair-okay-fits}
+use Rattle.places.specs.Places.{firstFound, addressOf}
+use Rattle.places.proofs.Words.{plain-lowest}
 use Rattle.state.specs.declared.engine.Engine.{Engine}
 use Rattle.state.specs.declared.engine.Transfer.{Transfer}
+use Rattle.state.specs.declared.engine.ErrorBit.the-variants.{DmaSlvErr, DmaDecErr}
+use Rattle.state.specs.declared.engine.Outcome.the-variants.{Slave, Decode}
 use Rattle.state.specs.declared.engine.Phase.{Phase}
 use Rattle.state.specs.State.{transferFits, phaseFits, withControl}
 use Rattle.state.proofs.WellFormed.{well-formed}
-use Rattle.steps.specs.Step.{advanceSeen, readsAt, writesAt, afterBurstOf, moveBurstBy, moveBurstOf}
-use Rattle.steps.specs.Incrementing.{incrementingBy, incrementingOf, Incrementing}
+use Rattle.steps.specs.Step.{advanceSeen, readsAt, writesAt, faultAt, afterBurstOf, afterFaultOf, moveBurstBy, moveBurstOf}
+use Rattle.steps.specs.Incrementing.{pairPlace, incrementingBy, incrementingOf, Incrementing}
 use Rattle.steps.proofs.Advances.{advance-by}
 use Rattle.steps.proofs.Bursts.{bytes-fit, answer-incrementing, moved-incrementing}
 
@@ -33,15 +37,20 @@ module _ (s : Engine) (t : Transfer) (m : List ℕ) (windows : List Window) (leg
   abbrev verdict : Verdict
   verdict = pairOf (length m) windows (readsAt t) (writesAt t) bytes
 
-  by-verdict : (v : Verdict) → verdict ≡ v → moveBurstBy (withBits false false) t m bytes v ≡ incrementingBy (withBits false false) t m bytes v
+  fails-at : (v : Verdict) → faultAt (withBits false false) t (length m) windows bytes v ≡ pairPlace t (length m) windows bytes v
+  fails-at v =
+      ap addressOf
+      (ap₂ firstFound (plain-lowest (length m) windows v (s .settings .width) (t .source) (t .moved) bytes) (plain-lowest (length m) windows v (s .settings .width) (t .destination) (t .moved) bytes))
+
+  by-verdict : (v : Verdict) → verdict ≡ v → moveBurstBy (withBits false false) t m windows bytes v ≡ incrementingBy (withBits false false) t m windows bytes v
   by-verdict Okay e =
       ap (advanceSeen (afterBurstOf (withBits false false) t (writesAt t) bytes))
       (moved-incrementing (s .settings) t m bytes (pair-okay-fits (length m) windows (readsAt t) (writesAt t) bytes e (bytes-fit (s .settings) false t legals fits .some) .0))
-  by-verdict SlaveError e = refl
-  by-verdict DecodeError e = refl
+  by-verdict SlaveError e = ap (λ (p : ℕ). advanceSeen (afterFaultOf (withBits false false) p Slave DmaSlvErr) m) (fails-at SlaveError)
+  by-verdict DecodeError e = ap (λ (p : ℕ). advanceSeen (afterFaultOf (withBits false false) p Decode DmaDecErr) m) (fails-at DecodeError)
 
   both-clear : moveBurstOf (withBits false false) t m windows ≡ incrementingOf (withBits false false) t m windows
-  both-clear = ap (moveBurstBy (withBits false false) t m bytes) (answer-incrementing (s .settings) t (length m) windows bytes) ∙ by-verdict verdict refl
+  both-clear = ap (moveBurstBy (withBits false false) t m windows bytes) (answer-incrementing (s .settings) t (length m) windows bytes) ∙ by-verdict verdict refl
 
   moves-incrementing : s .control .keyholeread ≡ false → s .control .keyholewrite ≡ false → moveBurstOf s t m windows ≡ incrementingOf s t m windows
   moves-incrementing reading writing =

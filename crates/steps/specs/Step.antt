@@ -14,6 +14,7 @@ use Rattle.memory.specs.declared.verdict.Verdict.{Verdict}
 use Rattle.memory.specs.declared.verdict.Verdict.the-variants.{Okay, Slave as SlaveError, Decode as DecodeError}
 use Rattle.memory.specs.Verdict.{groupOf}
 use Rattle.sides.specs.Sides.{placeOf, sidesAnswer, sidesMoved}
+use Rattle.places.specs.Places.{faultOf, addressOf}
 use Rattle.state.specs.declared.engine.Engine.{Engine}
 use Rattle.state.specs.declared.engine.Transfer.{Transfer}
 use Rattle.state.specs.declared.engine.ErrorBit.{ErrorBit}
@@ -106,7 +107,7 @@ abbrev pub bytesBy : Settings → Bool → Transfer → ℕ
 bytesBy x writes t =
     when writes (min (pieceBytes x) (t .total - t .moved)) (burstBytes (x .width) (x .beats) (writesAt t) (t .total - t .moved))
 
--- what its event tells of its place: the first byte written, or the start of a fixed destination
+-- what its event tells of its place, if memory takes it: the first byte written, or the start of a fixed destination
 abbrev pub toldBy : Bool → Transfer → ℕ
 toldBy writes t = when writes (t .destination) (writesAt t)
 
@@ -119,6 +120,10 @@ answerBy x reads writes t size windows n =
 abbrev pub movedBy : Settings → Bool → Bool → Transfer → List ℕ → ℕ → List ℕ
 movedBy x reads writes t m n = sidesMoved m (readPlace x reads t) (writePlace x writes t) (t .moved) n
 
+-- where it failed, if they answer with the error v: the lowest byte that gives v, of the source's if one of these does
+abbrev pub faultBy : Settings → Bool → Bool → Transfer → ℕ → List Window → ℕ → Verdict → ℕ
+faultBy x reads writes t size windows n v = addressOf (faultOf size windows v (readPlace x reads t) (writePlace x writes t) (t .moved) n)
+
 -- the same of an engine, by its settings and its key hole bits
 abbrev pub nextBytes : Engine → Transfer → ℕ
 nextBytes s = bytesBy (s .settings) (s .control .keyholewrite)
@@ -128,6 +133,9 @@ toldAt s = toldBy (s .control .keyholewrite)
 
 abbrev pub burstAnswer : Engine → Transfer → ℕ → List Window → ℕ → Verdict
 burstAnswer s = answerBy (s .settings) (s .control .keyholeread) (s .control .keyholewrite)
+
+abbrev pub faultAt : Engine → Transfer → ℕ → List Window → ℕ → Verdict → ℕ
+faultAt s = faultBy (s .settings) (s .control .keyholeread) (s .control .keyholewrite)
 
 abbrev pub burstMoved : Engine → Transfer → List ℕ → ℕ → List ℕ
 burstMoved s = movedBy (s .settings) (s .control .keyholeread) (s .control .keyholewrite)
@@ -149,21 +157,21 @@ afterBurstOf s t start bytes = record {
   engine = continueOrFinishOf s t (t .moved + bytes);
 }
 
--- a move that fails: chain mode goes to update, simple mode sets its CDMASR bit and halts
+-- a move that fails at a place: chain mode goes to update, simple mode sets its CDMASR bit and halts
 abbrev pub afterFaultOf : Engine → ℕ → Outcome → ErrorBit → Advanced
-afterFaultOf s destination outcome b = record {
-  event = Fault destination (errorBitOf b);
+afterFaultOf s place outcome b = record {
+  event = Fault place (errorBitOf b);
   engine = when (s .control .sgmode) (withPhase s (Update outcome)) (stopOnErrorOf s b);
 }
 
 -- move, by what its bytes answer
-abbrev pub moveBurstBy : Engine → Transfer → List ℕ → ℕ → Verdict → AfterAdvance
-moveBurstBy s t m bytes Okay = advanceSeen (afterBurstOf s t (toldAt s t) bytes) (burstMoved s t m bytes)
-moveBurstBy s t m bytes SlaveError = advanceSeen (afterFaultOf s (toldAt s t) Slave DmaSlvErr) m
-moveBurstBy s t m bytes DecodeError = advanceSeen (afterFaultOf s (toldAt s t) Decode DmaDecErr) m
+abbrev pub moveBurstBy : Engine → Transfer → List ℕ → List Window → ℕ → Verdict → AfterAdvance
+moveBurstBy s t m windows n Okay = advanceSeen (afterBurstOf s t (toldAt s t) n) (burstMoved s t m n)
+moveBurstBy s t m windows n SlaveError = advanceSeen (afterFaultOf s (faultAt s t (length m) windows n SlaveError) Slave DmaSlvErr) m
+moveBurstBy s t m windows n DecodeError = advanceSeen (afterFaultOf s (faultAt s t (length m) windows n DecodeError) Decode DmaDecErr) m
 
 abbrev pub moveBurstOf : Engine → Transfer → List ℕ → List Window → AfterAdvance
-moveBurstOf s t m windows = moveBurstBy s t m (nextBytes s t) (burstAnswer s t (length m) windows (nextBytes s t))
+moveBurstOf s t m windows = moveBurstBy s t m windows (nextBytes s t) (burstAnswer s t (length m) windows (nextBytes s t))
 
 -- ---- update
 

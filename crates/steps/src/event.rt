@@ -6,7 +6,7 @@ pub enum Event {
     None,
     Fetch(u32),
     Move(Burst),
-    Fault { destination: u32, bit: u32 },
+    Fault { place: u32, bit: u32 },
     Update { current: u32, word: u32 },
     Halt { current: u32, bit: u32 },
 }

@@ -8,6 +8,7 @@ use cut::least;
 use cut::span;
 use kit::settings::Settings;
 use memory::verdict::Verdict;
+use places::fault::fault_place;
 use sides::carry::carry;
 use state::engine::Engine;
 use state::engine::ErrorBit;
@@ -23,7 +24,7 @@ ghost use Rattle.kit.specs.Limits.{mostBytes, mostMemory};
 ghost use Rattle.kit.specs.Settings.{legalOf};
 ghost use Rattle.memory.specs.Windows.{windowsOf};
 ghost use Rattle.state.specs.State.{transferFits};
-ghost use Rattle.steps.specs.Step.{advanceSeen, pieceBytes, bytesBy, toldBy, continueOrFinishOf, afterBurstOf, afterFaultOf, moveBurstOf};
+ghost use Rattle.steps.specs.Step.{advanceSeen, pieceBytes, bytesBy, toldBy, faultAt, continueOrFinishOf, afterBurstOf, afterFaultOf, moveBurstOf};
 
 // A fixed destination takes pieces of at most so many beats.
 const MOST_FIXED_BEATS: u64 = 16;
@@ -56,12 +57,12 @@ fn after_burst(engine: Engine, transfer: Transfer, start: u32, bytes: u32) -> Ad
     }
 }
 
-// A burst that memory refused: chain mode goes to update, simple mode halts.
-fn after_fault(engine: Engine, destination: u32, outcome: Outcome, bit: ErrorBit) -> Advanced
-    ensures { λ r. ⌜ r ≡ afterFaultOf engine destination outcome bit ⌝ }
+// A burst that memory refused, and where: chain mode goes to update, simple mode halts.
+fn after_fault(engine: Engine, place: u32, outcome: Outcome, bit: ErrorBit) -> Advanced
+    ensures { λ r. ⌜ r ≡ afterFaultOf engine place outcome bit ⌝ }
 {
     let event = Event::Fault {
-        destination,
+        place,
         bit: bit_number(bit),
     };
     if engine.control.sgmode {
@@ -99,7 +100,7 @@ pub fn next_bytes(settings: Settings, writes: bool, transfer: Transfer) -> u32
     burst_bytes(settings.width, settings.beats, to as u64, left)
 }
 
-// The place that its event tells.
+// The place that its event tells, if memory takes it.
 pub fn told_at(writes: bool, transfer: Transfer) -> u32
     requires { ⌜ transferFits transfer ≡ true ⌝ }
     ensures { λ r. ⌜ r ≡ toldBy writes transfer ⌝ }
@@ -108,6 +109,34 @@ pub fn told_at(writes: bool, transfer: Transfer) -> u32
         return transfer.destination;
     }
     transfer.destination + transfer.moved
+}
+
+// The place that its event tells, if memory refused it: of a byte that gave the verdict. It is looked for only then.
+fn fault_at(
+    engine: Engine,
+    transfer: Transfer,
+    size: usize,
+    windows: &[u32],
+    bytes: u32,
+    verdict: Verdict,
+) -> u32
+    requires { ⌜ legalOf (engine .settings) ≡ true ⌝ }
+    requires { ⌜ transferFits transfer ≡ true ⌝ }
+    requires { ⌜ size ≤ mostMemory ⌝ }
+    ensures { λ r. ⌜ r ≡ faultAt engine transfer size (windowsOf (now (windows .entry))) bytes verdict ⌝ }
+{
+    fault_place(
+        size,
+        windows,
+        verdict,
+        engine.settings.width,
+        engine.control.keyholeread,
+        engine.control.keyholewrite,
+        transfer.source,
+        transfer.destination,
+        transfer.moved,
+        bytes,
+    )
 }
 
 // The burst's source and destination bytes are judged together; nothing is written unless both are in order.
@@ -125,7 +154,7 @@ pub fn move_burst(
     let reads = engine.control.keyholeread;
     let writes = engine.control.keyholewrite;
     let bytes = next_bytes(engine.settings, writes, transfer);
-    let told = told_at(writes, transfer);
+    let size = memory.len();
     let verdict = carry(
         memory,
         windows,
@@ -138,8 +167,14 @@ pub fn move_burst(
         bytes,
     );
     match verdict {
-        Verdict::Okay => after_burst(engine, transfer, told, bytes),
-        Verdict::Slave => after_fault(engine, told, Outcome::Slave, ErrorBit::DmaSlvErr),
-        Verdict::Decode => after_fault(engine, told, Outcome::Decode, ErrorBit::DmaDecErr),
+        Verdict::Okay => after_burst(engine, transfer, told_at(writes, transfer), bytes),
+        Verdict::Slave => {
+            let place = fault_at(engine, transfer, size, windows, bytes, Verdict::Slave);
+            after_fault(engine, place, Outcome::Slave, ErrorBit::DmaSlvErr)
+        }
+        Verdict::Decode => {
+            let place = fault_at(engine, transfer, size, windows, bytes, Verdict::Decode);
+            after_fault(engine, place, Outcome::Decode, ErrorBit::DmaDecErr)
+        }
     }
 }

@@ -28,9 +28,9 @@ pub fn report_of(event: Event) -> Report
             first: burst.start,
             second: burst.bytes,
         },
-        Event::Fault { destination, bit } => Report {
+        Event::Fault { place, bit } => Report {
             number: 3,
-            first: destination,
+            first: place,
             second: bit,
         },
         Event::Update { current, word } => Report {

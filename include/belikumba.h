@@ -159,6 +159,54 @@ enum belikumba_status {
     BELIKUMBA_STATUS_COMPLETE = 31
 };
 
+/* ---- Memory (RULES.md 4) ---- */
+
+/* What a group of bytes answers. Decode error outweighs slave error, and slave error outweighs OKAY. */
+enum belikumba_verdict {
+    BELIKUMBA_OKAY = 0,
+    BELIKUMBA_SLAVE_ERROR = 1, /* a byte of the group is in memory, and in a sick window */
+    BELIKUMBA_DECODE_ERROR = 2 /* a byte of the group is at or past the end of memory */
+};
+
+struct belikumba_judged {
+    uint32_t answer;  /* 0, 2 or 6 */
+    uint32_t verdict; /* one of the verdicts above */
+    uint32_t place;   /* the lowest address that gave the verdict; 0 if it is OKAY */
+    uint32_t window;  /* the number of the window that holds the place; 0 if the verdict is no slave error */
+};
+
+/*
+ * What the `bytes` bytes from address `start` on answer, in memory of `memory_bytes` bytes from address 0 on, and where. The
+ * sick windows, that is faulty regions, are in `windows`: start and length in turn, in `window_numbers` numbers, two a window;
+ * an odd last number is of no use. A window holds the bytes from its start up to, not including, start + length. Windows are
+ * numbered from 0 in their order here.
+ *
+ *     OKAY            no byte is in a window or past the end of memory; 0 bytes are OKAY
+ *     slave error     `place` is the lowest byte that is in a window, and `window` the first window that holds this byte. An
+ *                     empty window holds nothing, but has its number.
+ *     decode error    `place` is the lowest byte at or past the end of memory. Sick bytes are not named, even if lower.
+ *
+ * Byte 0 and window 0 are a place and a window like any other: look at the verdict first.
+ *
+ * The answer is the first of these that holds:
+ *
+ *     2    memory_bytes is above 16,777,216
+ *     6    there are more than 16 windows; an empty one counts
+ *     0    done
+ *
+ * `start` and `bytes` may be any numbers: no sum wraps, so bytes past 2^32 are past the end of memory. No memory is lent, as what
+ * bytes answer does not depend on what they hold. `windows` may be a null pointer if `window_numbers` is 0.
+ *
+ * A step judges by the same rules. Where it failed is asked for so, with the memory and windows that the step was lent:
+ *
+ *     BELIKUMBA_FAULT    its first number is the place already. For the window, and for the side that it does not tell, judge
+ *                        the source bytes of the burst and its destination bytes; host/name_chip.c does.
+ *     BELIKUMBA_HALT     at a fetch, judge the 32 bytes at CURDESC; at an update, the 4 bytes at CURDESC + 28. If the second
+ *                        number is 8, the descriptor was complete already, and no byte failed.
+ */
+struct belikumba_judged belikumba_judge(size_t memory_bytes, const uint32_t *windows, size_t window_numbers, uint32_t start,
+                                        uint32_t bytes);
+
 /* ---- Engine (RULES.md 5 and 6) ---- */
 
 /*
@@ -197,6 +245,10 @@ enum belikumba_status {
  *
  *     1  an engine has 20 words
  *     2  it has 22. The words of 1 and then 0, 0 are the same engine.
+ *
+ * It does not rise if a function is added, or if an event tells another number. What a caller of 2 notices since version 2.3:
+ * BELIKUMBA_FAULT tells the byte that failed, where it told the start of the burst's destination bytes; and there is one
+ * function more, belikumba_judge.
  */
 #define BELIKUMBA_INTERFACE 2
 
@@ -223,7 +275,7 @@ enum belikumba_event {
     BELIKUMBA_NONE = 0,   /* the engine was idle, or the step was refused: 0, 0 */
     BELIKUMBA_FETCH = 1,  /* current pointer, 0 */
     BELIKUMBA_MOVE = 2,   /* destination (a fixed one's start), bytes */
-    BELIKUMBA_FAULT = 3,  /* destination likewise, number of the CDMASR bit */
+    BELIKUMBA_FAULT = 3,  /* address of the byte that failed (see below), number of the CDMASR bit */
     BELIKUMBA_UPDATE = 4, /* current pointer, status word */
     BELIKUMBA_HALT = 5    /* current pointer, number of the CDMASR bit */
 };
@@ -237,9 +289,13 @@ struct belikumba_stepped {
 
 /*
  * One step over the `memory_bytes` bytes of memory. `windows` holds sick windows, that is faulty regions, which answer
- * slave error (RULES.md 4): start and length in turn, in `window_numbers` numbers, two a window; an odd last number is of no
- * use. The answer is 1, 2, 6, 9, the first that holds, or 0. Memory and windows may be null pointers if their length is 0,
- * and may change between two steps.
+ * slave error, as for belikumba_judge above: start and length in turn, in `window_numbers` numbers, two a window; an odd last
+ * number is of no use. The answer is 1, 2, 6, 9, the first that holds, or 0. Memory and windows may be null pointers if their
+ * length is 0, and may change between two steps.
+ *
+ * A fault tells the lowest byte that gave the error, as belikumba_judge does, of the burst's source bytes or of its destination
+ * bytes. If both gave this error, it is the source's byte, even where the destination's is lower. Of a fixed side (RULES.md 6.10)
+ * it is the lowest byte of those that the burst uses, not the first that it comes to.
  */
 struct belikumba_stepped belikumba_step(uint32_t engine[BELIKUMBA_ENGINE_WORDS], uint8_t *memory, size_t memory_bytes,
                                         const uint32_t *windows, size_t window_numbers);

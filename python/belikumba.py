@@ -25,11 +25,11 @@ environment's BELIKUMBA_LIBRARY, in target/host beside this folder, and where th
 import ctypes
 import enum
 import os
-from typing import NamedTuple
+from typing import NamedTuple, Optional
 
 __all__ = [
-    "Answer", "Clock", "Control", "Descriptor", "Engine", "Event", "Monitor", "Refused", "Register", "Status", "Step",
-    "count", "plan",
+    "Answer", "Clock", "Control", "Descriptor", "Engine", "Event", "Judged", "Monitor", "Refused", "Register", "Status",
+    "Step", "Verdict", "count", "judge", "plan",
 ]
 
 
@@ -122,11 +122,27 @@ class Event(enum.IntEnum):
 
 
 class Step(NamedTuple):
-    """A step's event and its two numbers."""
+    """A step's event and its two numbers; of a FAULT the address of the byte that failed and the CDMASR bit's number."""
 
     event: Event
     first: int
     second: int
+
+
+class Verdict(enum.IntEnum):
+    """What a group of bytes answers; RULES.md 4.1."""
+
+    OKAY = 0
+    SLAVE_ERROR = 1
+    DECODE_ERROR = 2
+
+
+class Judged(NamedTuple):
+    """What a group of bytes answers, and where; RULES.md 4.2. OKAY has no place, and only a slave error has a window."""
+
+    verdict: Verdict
+    place: Optional[int]
+    window: Optional[int]
 
 
 class Descriptor(NamedTuple):
@@ -161,6 +177,7 @@ def _structure(name, *fields):
 _Planned = _structure("_Planned", "answer", "bursts")
 _Value = _structure("_Value", "answer", "value")
 _Stepped = _structure("_Stepped", "answer", "event", "first", "second")
+_Judged = _structure("_Judged", "answer", "verdict", "place", "window")
 _Ran = _structure("_Ran", "answer", "steps")
 _CLOCK_FIELDS = ("bits", "address", "length", "size", "burst", "cache", "prot", "qos", "region", "id")
 _Clock = _structure("_Clock", *_CLOCK_FIELDS)
@@ -184,6 +201,7 @@ def _load():
     for name, result, arguments in (
         ("plan", _Planned, (_WORD, _WORD, _WORD, _WORD, memory, size)),
         ("count", _Planned, (_WORD, _WORD, _WORD, _WORD)),
+        ("judge", _Judged, (size, words, size, _WORD, _WORD)),
         ("read", _Value, (words, _WORD)),
         ("write", _WORD, (words, _WORD, _WORD)),
         ("interrupt_line", _Value, (words,)),
@@ -248,6 +266,26 @@ def plan(width, beats, start, count, places=None):
 def count(width, beats, start, count):
     """The number of bursts of a transfer whose destination increments, without its plan; RULES.md 3.4."""
     return _counted([_number(number) for number in (width, beats, start, count)])
+
+
+def judge(memory, windows, start, bytes):
+    """What the `bytes` bytes from address `start` on answer, and where; RULES.md 4.
+
+    `memory` is the memory or its number of bytes: what is in it is not looked at. `windows` are (start, length), as for a
+    step, and are numbered from 0 in their order. Where a step failed:
+
+    - a FAULT's first number is the place; judge the burst's source bytes and its destination bytes for the window;
+    - after a HALT at a fetch, judge the 32 bytes at CURDESC; at an update, the 4 bytes at CURDESC + 28.
+    """
+    length = memory if isinstance(memory, int) else memoryview(memory).nbytes
+    length = _number(length, ctypes.c_size_t(-1).value)
+    judged = _judged(_library.belikumba_judge(length, *_windows(windows), _number(start), _number(bytes)))
+    verdict = Verdict(judged.verdict)
+    return Judged(
+        verdict,
+        None if verdict == Verdict.OKAY else judged.place,
+        judged.window if verdict == Verdict.SLAVE_ERROR else None,
+    )
 
 
 class Engine:

@@ -9,7 +9,8 @@ ROOT = os.path.join(os.path.dirname(os.path.abspath(__file__)), "..", "..")
 sys.path.insert(0, os.path.join(ROOT, "python"))
 
 from belikumba import (
-    INTERFACE, Answer, Clock, Control, Descriptor, Engine, Event, Monitor, Refused, Register, Status, Step, count, plan,
+    INTERFACE, Answer, Clock, Control, Descriptor, Engine, Event, Judged, Monitor, Refused, Register, Status, Step, Verdict,
+    count, judge, plan,
 )
 
 
@@ -28,7 +29,9 @@ class Header(unittest.TestCase):
         with open(os.path.join(ROOT, "include", "belikumba.h")) as file:
             text = re.sub(r"/\*.*?\*/", "", file.read(), flags=re.S)
         numbers = {name: eval(value) for name, value in re.findall(r"BELIKUMBA_(\w+) = ([^,}]+)", text)}
-        for kind, prefix in ((Answer, ""), (Register, ""), (Event, ""), (Control, "CDMACR_"), (Status, "CDMASR_")):
+        for kind, prefix in (
+            (Answer, ""), (Register, ""), (Event, ""), (Verdict, ""), (Control, "CDMACR_"), (Status, "CDMASR_"),
+        ):
             for name, member in kind.__members__.items():
                 self.assertEqual(numbers[prefix + name], member.value, prefix + name)
         for kind, words in (("ENGINE", Engine().words), ("MONITOR", Monitor().words)):
@@ -99,6 +102,104 @@ class Counts(Cases):
         self.refused(Answer.SETTINGS, count, 4, 512, 0, 1)
         self.assertRaises(OverflowError, count, 4, 16, 0, 1 << 32)
         self.assertRaises(OverflowError, count, 4, 16, -1, 1)
+
+
+class Judgements(Cases):
+    """RULES.md 4: what a group of bytes answers, at which byte, and which window holds it."""
+
+    OKAY = Judged(Verdict.OKAY, None, None)
+
+    def slave(self, place, window):
+        return Judged(Verdict.SLAVE_ERROR, place, window)
+
+    def decode(self, place):
+        return Judged(Verdict.DECODE_ERROR, place, None)
+
+    def test_windows(self):
+        overlap = [(1040, 16), (1032, 16)]  # 1040 to 1055, and 1032 to 1047
+        empty = [(1028, 0), (1008, 28)]  # none, and 1008 to 1035
+        for windows, start, count, judged in (
+            (overlap, 1024, 32, self.slave(1032, 1)),  # the lowest sick byte is in the second window alone
+            (overlap, 1040, 8, self.slave(1040, 0)),  # both hold it
+            (overlap, 1048, 8, self.slave(1048, 0)),
+            (overlap, 1024, 8, self.OKAY),
+            (overlap, 1056, 8, self.OKAY),
+            (overlap[::-1], 1024, 32, self.slave(1032, 0)),
+            (overlap[::-1], 1040, 8, self.slave(1040, 0)),
+            (empty, 1024, 16, self.slave(1024, 1)),  # the window starts before the bytes
+            (empty, 1028, 1, self.slave(1028, 1)),
+            (empty, 1036, 16, self.OKAY),
+            ([(0, 1)], 0, 4, self.slave(0, 0)),
+            ([(4294967288, 16)], 0, 8, self.OKAY),  # no window wraps
+            ([(32760, 4294967295)], 32756, 8, self.slave(32760, 0)),
+            ([(0, 0)] * 15 + [(7, 1)], 0, 8, self.slave(7, 15)),
+            ([(0, 32768)], 16, 0, self.OKAY),
+        ):
+            self.assertEqual(judge(32768, windows, start, count), judged)
+
+    def test_end_of_memory(self):
+        sick = [(32754, 1)]
+        for memory, windows, start, count, judged in (
+            (32768, sick, 32752, 16, self.slave(32754, 0)),
+            (32768, sick, 32752, 17, self.decode(32768)),  # the sick byte is lower, and not named
+            (32768, [], 32767, 1, self.OKAY),
+            (32768, [], 32768, 1, self.decode(32768)),
+            (32768, [(32768, 9)], 32770, 1, self.decode(32770)),  # a window past the end holds no byte of the memory
+            (32768, [], 40000, 0, self.OKAY),
+            (32768, [], 4294967295, 4294967295, self.decode(4294967295)),
+            (16777216, [], 0, 16777216, self.OKAY),
+            (16777216, [], 1, 4294967295, self.decode(16777216)),
+            (0, [], 0, 1, self.decode(0)),
+            (0, [], 0, 0, self.OKAY),
+        ):
+            self.assertEqual(judge(memory, windows, start, count), judged)
+        for memory in (bytearray(64), bytes(64), memoryview(bytes(64))):
+            self.assertEqual(judge(memory, [(60, 8)], 56, 8), self.slave(60, 0))
+            self.assertEqual(judge(memory, [(60, 8)], 56, 9), self.decode(64))
+
+    def test_refusals(self):
+        self.refused(Answer.MEMORY_SIZE, judge, 16777217, [(0, 0)] * 17, 0, 0)
+        self.refused(Answer.MEMORY_SIZE, judge, bytearray(16777217), [], 0, 1)
+        self.refused(Answer.WINDOW_COUNT, judge, 16777216, [(0, 0)] * 17, 0, 0)
+        for arguments in ((-1, [], 0, 0), (1 << 64, [], 0, 0), (0, [(0, 1 << 32)], 0, 0), (0, [], 1 << 32, 0), (0, [], 0, -1)):
+            self.assertRaises(OverflowError, judge, *arguments)
+        self.assertRaises(TypeError, judge, None, [], 0, 0)
+
+    def test_fault(self):  # as host/name_chip.c
+        memory = bytearray(12288)
+        windows = [(330, 2), (4170, 8)]
+        engine = Engine()
+        engine.write(Register.SA, 4096)
+        engine.write(Register.DA, 256)
+        engine.write(Register.BTT, 100)
+        self.assertEqual(engine.step(memory, windows), Step(Event.MOVE, 256, 64))
+        self.assertEqual(engine.step(memory, windows), Step(Event.FAULT, 4170, 5))
+        self.assertEqual(judge(memory, windows, 4160, 36), self.slave(4170, 1))
+        self.assertEqual(judge(memory, windows, 320, 36), self.slave(330, 0))
+
+    def test_fault_in_queue(self):  # examples/fault-place-drain
+        memory = bytearray(32768)
+        engine = Engine(beats=2)
+        engine.write(Register.CDMACR, Control.KEY_HOLE_READ)
+        engine.write(Register.SA, 1024)
+        engine.write(Register.DA, 4086)
+        engine.write(Register.BTT, 12)
+        self.assertEqual(engine.step(memory), Step(Event.MOVE, 4086, 6))
+        self.assertEqual(engine.step(memory, [(1027, 1), (1025, 1)]), Step(Event.FAULT, 1025, 5))
+
+    def test_halts(self):
+        memory = bytearray(4096)
+        Descriptor(source=1024, destination=2048, control=8).store(memory, 64)
+        engine = Engine()
+        engine.write(Register.CDMACR, Control.SGMODE)
+        engine.write(Register.CURDESC, 64)
+        engine.write(Register.TAILDESC, 64)
+        fetching = Engine(words=engine.words)
+        self.assertEqual(fetching.step(memory, [(70, 30)]), Step(Event.HALT, 64, 9))
+        self.assertEqual(judge(memory, [(70, 30)], 64, 32), self.slave(70, 0))
+        self.assertEqual(engine.run(memory, most=2), 2)  # fetch and move
+        self.assertEqual(engine.step(memory, [(70, 22), (95, 1)]), Step(Event.HALT, 64, 9))  # the status word is 92 to 95
+        self.assertEqual(judge(memory, [(70, 22), (95, 1)], 64 + 28, 4), self.slave(95, 1))
 
 
 class Engines(Cases):

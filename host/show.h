@@ -64,11 +64,12 @@ static inline uint32_t show_interrupt_line(const uint32_t *engine) {
     return line.value;
 }
 
-static inline void show_step(uint32_t *engine, struct board board) {
+static inline struct belikumba_stepped show_step(uint32_t *engine, struct board board) {
     struct belikumba_stepped stepped =
         belikumba_step(engine, board.memory, board.bytes, board.windows, board.window_numbers);
     printf("%s %" PRIu32 " %" PRIu32 ": answer %" PRIu32 "\n", event_name(stepped.event), stepped.first, stepped.second,
            stepped.answer);
+    return stepped;
 }
 
 static inline void show_run(uint32_t *engine, struct board board, uint16_t most) {

@@ -1,7 +1,7 @@
 /*
- * Names the chip behind a failure. The memory has two sick windows, each of one faulty chip. A copy meets both in one burst; the
- * fault tells one byte, and belikumba_judge tells for each side of the burst which window holds it. Then the same copy once the
- * named chip is good, a descriptor on a faulty chip, and one past the end of memory. Each call is printed with its answer.
+ * Names the chip behind a failure. The memory has two sick windows, each of one faulty chip. A copy meets both in one burst;
+ * the fault tells one byte, and belikumba_judge tells for each side of the burst which window it meets. Then a descriptor on a
+ * faulty chip, one past the end of memory, and the copy again as the chips are replaced. Each call is printed with its answer.
  *
  *     ./belikumba lib
  *     cc -Iinclude host/name_chip.c target/host/libbelikumba.a -o target/host/name_chip

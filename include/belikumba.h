@@ -194,15 +194,16 @@ struct belikumba_judged {
  *     6    there are more than 16 windows; an empty one counts
  *     0    done
  *
- * `start` and `bytes` may be any numbers: no sum wraps, so bytes past 2^32 are past the end of memory. No memory is lent, as what
- * bytes answer does not depend on what they hold. `windows` may be a null pointer if `window_numbers` is 0.
+ * `start` and `bytes` may be any numbers: no sum wraps, so bytes past 2^32 are past the end of memory. No memory is lent, as
+ * what bytes answer does not depend on what they hold. `windows` may be a null pointer if `window_numbers` is 0.
  *
- * A step judges by the same rules. Where it failed is asked for so, with the memory and windows that the step was lent:
+ * A step judges by the same rules. To find where it failed, ask with the length and the windows that the step was lent:
  *
- *     BELIKUMBA_FAULT    its first number is the place already. For the window, and for the side that it does not tell, judge
- *                        the source bytes of the burst and its destination bytes; host/name_chip.c does.
- *     BELIKUMBA_HALT     at a fetch, judge the 32 bytes at CURDESC; at an update, the 4 bytes at CURDESC + 28. If the second
- *                        number is 8, the descriptor was complete already, and no byte failed.
+ *     BELIKUMBA_FAULT    the first number is a place already. For its window, and for the side that the fault does not tell,
+ *                        judge the burst's source bytes and its destination bytes, as host/name_chip.c does.
+ *     BELIKUMBA_HALT     judge the 32 bytes at CURDESC if the step was a fetch, or the 4 bytes at CURDESC + 28 if it was an
+ *                        update; word 15 of the engine before the step says which. If the event's second number is 8, the
+ *                        descriptor was complete already, and no byte failed.
  */
 struct belikumba_judged belikumba_judge(size_t memory_bytes, const uint32_t *windows, size_t window_numbers, uint32_t start,
                                         uint32_t bytes);
@@ -293,9 +294,9 @@ struct belikumba_stepped {
  * number is of no use. The answer is 1, 2, 6, 9, the first that holds, or 0. Memory and windows may be null pointers if their
  * length is 0, and may change between two steps.
  *
- * A fault tells the lowest byte that gave the error, as belikumba_judge does, of the burst's source bytes or of its destination
- * bytes. If both gave this error, it is the source's byte, even where the destination's is lower. Of a fixed side (RULES.md 6.10)
- * it is the lowest byte of those that the burst uses, not the first that it comes to.
+ * A fault tells the lowest byte that gave the error, as belikumba_judge does, of the burst's source bytes or of its
+ * destination bytes. If both gave this error, it is the source's byte, even if the destination's is lower. Of a fixed side
+ * (RULES.md 6.10) it is the lowest byte of those that the burst uses, not the first that it comes to.
  */
 struct belikumba_stepped belikumba_step(uint32_t engine[BELIKUMBA_ENGINE_WORDS], uint8_t *memory, size_t memory_bytes,
                                         const uint32_t *windows, size_t window_numbers);

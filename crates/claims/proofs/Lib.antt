@@ -4,6 +4,7 @@ pub mod Calls
 pub mod Claims
 pub mod Copies
 pub mod Events
+pub mod Faults
 pub mod Joined
 pub mod Judged
 pub mod Pieces

@@ -1,5 +1,6 @@
 pub mod Calls
 pub mod Events
+pub mod Faults
 pub mod Joined
 pub mod KeyHole
 pub mod Transfers

@@ -60,7 +60,7 @@ abbrev pub burstsOf : Event → List Burst
 burstsOf None = []
 burstsOf (Fetched current) = []
 burstsOf (Moved b) = b ∷ []
-burstsOf (Fault destination bit) = []
+burstsOf (Fault place bit) = []
 burstsOf (Updated current word) = []
 burstsOf (Halt current bit) = []
 

@@ -1,4 +1,5 @@
 pub mod Planning
+pub mod Judging
 pub mod Calls
 pub mod Moving
 pub mod Clocks

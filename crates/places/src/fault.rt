@@ -87,15 +87,20 @@ pub fn fault_place(
         from,
         count,
     );
-    let written = lowest_on_side(
-        size,
-        windows,
-        verdict,
-        width,
-        destinationfixed,
-        destination,
-        from,
-        count,
-    );
-    address(first_found(read, written))
+    match read {
+        Found::At(address) => address,
+        Found::Nothing => {
+            let written = lowest_on_side(
+                size,
+                windows,
+                verdict,
+                width,
+                destinationfixed,
+                destination,
+                from,
+                count,
+            );
+            address(written)
+        }
+    }
 }

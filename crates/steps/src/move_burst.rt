@@ -155,6 +155,7 @@ pub fn move_burst(
     let writes = engine.control.keyholewrite;
     let bytes = next_bytes(engine.settings, writes, transfer);
     let size = memory.len();
+    let told = told_at(writes, transfer);
     let verdict = carry(
         memory,
         windows,
@@ -167,7 +168,7 @@ pub fn move_burst(
         bytes,
     );
     match verdict {
-        Verdict::Okay => after_burst(engine, transfer, told_at(writes, transfer), bytes),
+        Verdict::Okay => after_burst(engine, transfer, told, bytes),
         Verdict::Slave => {
             let place = fault_at(engine, transfer, size, windows, bytes, Verdict::Slave);
             after_fault(engine, place, Outcome::Slave, ErrorBit::DmaSlvErr)

@@ -32,13 +32,14 @@ pub enum Phase {
     Update(Outcome),
 }
 
-/// What one step did. Bits are CDMASR bit numbers, `current` is that before the step.
+/// What one step did. Bits are CDMASR bit numbers, `current` is that before the step, `place` is
+/// the byte that a burst failed at.
 #[derive(Clone, Copy, Debug, PartialEq, Eq)]
 pub enum Event {
     None,
     Fetch { current: u32 },
     Move { start: u32, bytes: u32 },
-    Fault { destination: u32, bit: u32 },
+    Fault { place: u32, bit: u32 },
     Update { current: u32, word: u32 },
     Halt { current: u32, bit: u32 },
 }
@@ -555,15 +556,14 @@ impl Engine {
         let from = source + moved;
         let to = destination + moved;
         let bytes = cut::first_burst(self.width, self.beats, to, total - moved);
-        match memory::verdict(memory.len(), windows, [from, to], bytes) {
-            Verdict::Okay => {
-                copy(memory, from, to, bytes);
-                self.phase = self.moved_to(Transfer { moved: moved + bytes, ..transfer });
-                Event::Move { start: to, bytes }
-            }
-            Verdict::Slave => self.fault(to, Outcome::Slave, DMA_SLV_ERR),
-            Verdict::Decode => self.fault(to, Outcome::Decode, DMA_DEC_ERR),
+        let kind = memory::verdict(memory.len(), windows, [from, to], bytes);
+        if kind != Verdict::Okay {
+            let group = |start: u32| (u64::from(start)..).take(bytes as usize);
+            return self.fault(memory.len(), windows, kind, group(from), group(to));
         }
+        copy(memory, from, to, bytes);
+        self.phase = self.moved_to(Transfer { moved: moved + bytes, ..transfer });
+        Event::Move { start: to, bytes }
     }
 
     /// Move of one burst with a fixed side, byte by byte.
@@ -592,32 +592,47 @@ impl Engine {
         let from = places(source, self.key_hole_read);
         let to = places(destination, self.key_hole_write);
         // Reading: judged are the bytes that the burst uses, of a fixed word a part if it is short.
-        match memory::verdict_of_bytes(memory.len(), windows, from.iter().chain(&to)) {
-            Verdict::Okay => {
-                let burst: Vec<u8> = from.iter().map(|&at| memory[at as usize]).collect();
-                // In rising k: of the bytes for one place the last one stays.
-                for (&at, &byte) in to.iter().zip(&burst) {
-                    memory[at as usize] = byte;
-                }
-                self.phase = self.moved_to(Transfer { moved: moved + bytes, ..transfer });
-                Event::Move { start, bytes }
-            }
-            Verdict::Slave => self.fault(start, Outcome::Slave, DMA_SLV_ERR),
-            Verdict::Decode => self.fault(start, Outcome::Decode, DMA_DEC_ERR),
+        let kind = memory::verdict_of_bytes(memory.len(), windows, from.iter().chain(&to));
+        if kind != Verdict::Okay {
+            return self.fault(memory.len(), windows, kind, from, to);
         }
+        let burst: Vec<u8> = from.iter().map(|&at| memory[at as usize]).collect();
+        // In rising k: of the bytes for one place the last one stays.
+        for (&at, &byte) in to.iter().zip(&burst) {
+            memory[at as usize] = byte;
+        }
+        self.phase = self.moved_to(Transfer { moved: moved + bytes, ..transfer });
+        Event::Move { start, bytes }
     }
 
-    /// A burst that failed. Reading: bursts moved before stay written; a chain transfer that failed
-    /// stays busy without an error bit until its update; a failing simple move is the event fault
-    /// alone.
-    #[inline]
-    fn fault(&mut self, destination: u32, outcome: Outcome, bit: u32) -> Event {
+    /// A burst from and to these bytes that failed, its kind being that of all of them. Reading:
+    /// bursts moved before stay written; a chain transfer that failed stays busy without an error
+    /// bit until its update; a failing simple move is the event fault alone.
+    #[cold]
+    fn fault(
+        &mut self,
+        length: usize,
+        windows: &[Window],
+        kind: Verdict,
+        from: impl IntoIterator<Item = u64>,
+        to: impl IntoIterator<Item = u64>,
+    ) -> Event {
+        // Reading: if both sides give the kind, it is the source's place, even where the
+        // destination's is lower. The lowest byte counts, also where a burst goes round a fixed word.
+        let place = memory::lowest(length, windows, from, kind)
+            .or_else(|| memory::lowest(length, windows, to, kind))
+            .expect("a byte of the burst gave its kind");
+        let (outcome, bit) = match kind {
+            Verdict::Decode => (Outcome::Decode, DMA_DEC_ERR),
+            _ => (Outcome::Slave, DMA_SLV_ERR),
+        };
         if self.sg_mode {
             self.phase = Phase::Update(outcome);
         } else {
             self.halt(bit);
         }
-        Event::Fault { destination, bit }
+        // A burst starts below 2^32, and so does what fails first in it.
+        Event::Fault { place: place as u32, bit }
     }
 
     /// Update of the status word. Reading: judges 4 bytes and writes the whole word.

@@ -176,7 +176,7 @@ impl<To: Write> Listing<To> {
             Event::None => {}
             Event::Fetch { current } => self.line(FETCH, current, 0),
             Event::Move { start, bytes } => self.line(MOVE, start, bytes),
-            Event::Fault { destination, bit } => self.line(FAULT, destination, bit),
+            Event::Fault { place, bit } => self.line(FAULT, place, bit),
             Event::Update { current, word } => self.line(UPDATE, current, word),
             Event::Halt { current, bit } => self.line(HALT, current, bit),
         }

@@ -1,5 +1,7 @@
-// How a group of bytes of memory answers, with its end and its sick windows.
+// How a group of bytes of memory answers, with its end and its sick windows, and where it failed.
 // From RULES.md, "Memory that answers badly".
+
+use crate::answer;
 
 /// The longest memory allowed, in bytes (answer 2 beyond it).
 pub const LONGEST: usize = 16_777_216;
@@ -11,12 +13,23 @@ pub const MOST_WINDOWS: usize = 16;
 /// A sick window: start and length.
 pub type Window = (u32, u32);
 
-/// The answer of a group of bytes.
+/// The answer of a group of bytes, with the number that a library caller gets for it.
 #[derive(Clone, Copy, Debug, PartialEq, Eq)]
 pub enum Verdict {
-    Okay,
-    Slave,
-    Decode,
+    Okay = 0,
+    Slave = 1,
+    Decode = 2,
+}
+
+/// What a library caller gets for a group of bytes: the numbered answer, the number of the verdict,
+/// the lowest byte that gave it, and the first window, from 0, that holds this byte.
+/// Reading: a place or a window that there is not is 0, and so is all beside an answer but 0.
+#[derive(Clone, Copy, Debug, Default, PartialEq, Eq)]
+pub struct Judged {
+    pub answer: u32,
+    pub verdict: u32,
+    pub place: u32,
+    pub window: u32,
 }
 
 /// The last byte of a window that is not empty.
@@ -63,19 +76,24 @@ fn any_meets<const GROUPS: usize>(windows: &[Window], starts: [u32; GROUPS], cou
     any
 }
 
+/// The first window by number, from 0, that holds a byte. An empty one holds none.
+fn first_window(windows: &[Window], at: u64) -> Option<usize> {
+    windows.iter().position(|&(start, count)| {
+        let (start, count) = (u64::from(start), u64::from(count));
+        start <= at && at < start + count
+    })
+}
+
 /// How one byte answers, in a memory of `length` bytes. Addresses never wrap, so its place may be
 /// past 2^32.
 fn verdict_of_byte(length: usize, windows: &[Window], at: u64) -> Verdict {
     if at >= length as u64 {
-        return Verdict::Decode;
+        Verdict::Decode
+    } else if first_window(windows, at).is_some() {
+        Verdict::Slave
+    } else {
+        Verdict::Okay
     }
-    for &(start, count) in windows {
-        let (start, count) = (u64::from(start), u64::from(count));
-        if start <= at && at < start + count {
-            return Verdict::Slave;
-        }
-    }
-    Verdict::Okay
 }
 
 /// Judges bytes together that need not follow each other.
@@ -93,6 +111,42 @@ pub fn verdict_of_bytes<'a>(
         }
     }
     together
+}
+
+/// The lowest of some bytes that answers so, if any does. They need not follow each other.
+pub fn lowest(
+    length: usize,
+    windows: &[Window],
+    places: impl IntoIterator<Item = u64>,
+    kind: Verdict,
+) -> Option<u64> {
+    places.into_iter().filter(|&at| verdict_of_byte(length, windows, at) == kind).min()
+}
+
+/// Judges the `count` bytes from `start` on for a library caller. Windows are numbers, start and
+/// length in turn. Reading: 2 before 6, as for a step; an odd last number is of no use.
+pub fn judge(length: usize, numbers: &[u32], start: u32, count: u32) -> Judged {
+    let (pairs, _) = numbers.as_chunks();
+    if length > LONGEST {
+        return Judged { answer: answer::MEMORY, ..Judged::default() };
+    }
+    if pairs.len() > MOST_WINDOWS {
+        return Judged { answer: answer::WINDOWS, ..Judged::default() };
+    }
+    let windows: Vec<Window> = pairs.iter().map(|&[start, length]| (start, length)).collect();
+    let kind = verdict(length, &windows, [start], count);
+    // The group may have 2^32 bytes less one, so its place is not looked for byte by byte.
+    let (place, window) = match kind {
+        Verdict::Okay => (0, 0),
+        // Reading: a lower sick byte is not named.
+        Verdict::Decode => (start.max(length as u32), 0),
+        Verdict::Slave => {
+            let place = start + good_bytes(length, &windows, start, count);
+            let window = first_window(&windows, place.into()).expect("a sick byte has a window");
+            (place, window as u32)
+        }
+    };
+    Judged { answer: answer::DONE, verdict: kind as u32, place, window }
 }
 
 /// How many of the `most` bytes from `start` on answer OKAY, up to the first that does not.

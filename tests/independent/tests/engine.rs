@@ -490,7 +490,7 @@ fn idle_steps_and_runs() {
     assert_eq!(engine.run(&mut memory, &[], 3), (0, 0));
     // Empty memory.
     let mut engine = simple(0, 0, 1);
-    assert_eq!(engine.step(&mut [], &[]), (0, Event::Fault { destination: 0, bit: 6 }));
+    assert_eq!(engine.step(&mut [], &[]), (0, Event::Fault { place: 0, bit: 6 }));
 }
 
 #[test]
@@ -562,7 +562,7 @@ fn chain_move_failures() {
         let mut memory = vec![3; 1024];
         // Source at 636, 100 bytes: the second burst's source holds byte 700; or the
         // destination's second burst passes the end.
-        let destination = if bit == 5 { 256 } else { 960 };
+        let (destination, place) = if bit == 5 { (256, 700) } else { (960, 1024) };
         put(&mut memory, 0, &descriptor(64, 636, destination, 100, 0));
         let mut engine = chain(0, 0);
         let all = events(&mut engine, &mut memory, &[window]);
@@ -571,7 +571,7 @@ fn chain_move_failures() {
             [
                 Event::Fetch { current: 0 },
                 Event::Move { start: destination, bytes: 64 },
-                Event::Fault { destination: destination + 64, bit },
+                Event::Fault { place, bit },
                 Event::Update { current: 0, word: 1 << mark },
             ],
             "{outcome:?}"
@@ -587,25 +587,22 @@ fn source_and_destination_are_judged_together() {
     // Source slave error, destination decode error: decode. And the other way round.
     let mut memory = vec![0; 64];
     let mut engine = simple(0, 60, 8);
-    assert_eq!(engine.step(&mut memory, &[(3, 1)]), (0, Event::Fault { destination: 60, bit: 6 }));
+    assert_eq!(engine.step(&mut memory, &[(3, 1)]), (0, Event::Fault { place: 64, bit: 6 }));
     assert_eq!(status(&engine), 0x0001_404a);
     let mut engine = simple(60, 0, 8);
-    assert_eq!(engine.step(&mut memory, &[(3, 1)]), (0, Event::Fault { destination: 0, bit: 6 }));
+    assert_eq!(engine.step(&mut memory, &[(3, 1)]), (0, Event::Fault { place: 64, bit: 6 }));
     let mut engine = simple(16, 0, 8);
-    assert_eq!(engine.step(&mut memory, &[(3, 1)]), (0, Event::Fault { destination: 0, bit: 5 }));
+    assert_eq!(engine.step(&mut memory, &[(3, 1)]), (0, Event::Fault { place: 3, bit: 5 }));
     assert_eq!(status(&engine), 0x0001_402a);
     let mut engine = simple(0, 16, 8);
-    assert_eq!(engine.step(&mut memory, &[(3, 1)]), (0, Event::Fault { destination: 16, bit: 5 }));
+    assert_eq!(engine.step(&mut memory, &[(3, 1)]), (0, Event::Fault { place: 3, bit: 5 }));
     assert_eq!(memory, [0; 64]);
     // A source past 2^32 does not wrap.
     let mut engine = simple(u32::MAX, 0, 8);
-    assert_eq!(engine.step(&mut memory, &[]), (0, Event::Fault { destination: 0, bit: 6 }));
+    assert_eq!(engine.step(&mut memory, &[]), (0, Event::Fault { place: u32::MAX, bit: 6 }));
     // A destination whose end passes 2^32 starts, and ends by decode error.
     let mut engine = simple(0, u32::MAX - 3, 64);
-    assert_eq!(
-        engine.step(&mut memory, &[]),
-        (0, Event::Fault { destination: u32::MAX - 3, bit: 6 })
-    );
+    assert_eq!(engine.step(&mut memory, &[]), (0, Event::Fault { place: u32::MAX - 3, bit: 6 }));
 }
 
 #[test]
@@ -717,7 +714,7 @@ fn each_step_judges_what_it_is_lent() {
     let mut short = vec![2; 64];
     let mut engine = simple(0, 128, 128);
     assert_eq!(engine.step(&mut long, &[]), (0, Event::Move { start: 128, bytes: 64 }));
-    assert_eq!(engine.step(&mut short, &[]), (0, Event::Fault { destination: 192, bit: 6 }));
+    assert_eq!(engine.step(&mut short, &[]), (0, Event::Fault { place: 64, bit: 6 }));
 }
 
 // ---- Against a slow model of the text ----
@@ -732,6 +729,22 @@ fn byte_by_byte(memory: &[u8], windows: &[Window], group: &[u64]) -> u32 {
     } else {
         u32::from(slave)
     }
+}
+
+/// Where a burst failed: the first byte that answers as the whole burst does, of its source bytes
+/// and then of its destination bytes, each in rising order.
+fn slow_place(memory: &[u8], windows: &[Window], sources: Vec<u64>, targets: Vec<u64>) -> u32 {
+    let all = [sources.clone(), targets.clone()].concat();
+    let together = byte_by_byte(memory, windows, &all);
+    for mut side in [sources, targets] {
+        side.sort();
+        for at in side {
+            if byte_by_byte(memory, windows, &[at]) == together {
+                return at.try_into().unwrap();
+            }
+        }
+    }
+    panic!("no byte answers as the burst does");
 }
 
 fn group(start: u64, count: u64) -> Vec<u64> {
@@ -804,7 +817,8 @@ fn slow_step(engine: &Engine, memory: &[u8], windows: &[Window]) -> (Engine, Vec
             let bad = byte_by_byte(memory, windows, &both);
             if bad != 0 {
                 let bit = 4 + bad;
-                let event = Event::Fault { destination: start, bit };
+                let event =
+                    Event::Fault { place: slow_place(memory, windows, sources, targets), bit };
                 if !engine.sg_mode {
                     return (halted(engine, bit), same, event);
                 }

@@ -67,8 +67,8 @@ fn moved(start: u32, bytes: u32) -> Event {
     Event::Move { start, bytes }
 }
 
-fn fault(destination: u32, bit: u32) -> Event {
-    Event::Fault { destination, bit }
+fn fault(place: u32, bit: u32) -> Event {
+    Event::Fault { place, bit }
 }
 
 /// One step that is not refused.
@@ -717,11 +717,12 @@ fn a_chain_to_one_queue() {
     assert_eq!(read(&engine, CDMASR), DONE_WELL);
 }
 
-/// A fault in a chain waits for its update; the event names the queue in the second piece too.
+/// A fault in a chain waits for its update; the event names the source byte, a sick one or the
+/// first past the memory's end, and not the queue.
 #[test]
 fn faults_of_a_chain() {
-    for (windows, length, bit, mark) in
-        [(vec![(1100, 1)], 4096, 5, 29), (vec![(1100, 1)], 1120, 6, 30)]
+    for (windows, length, place, bit, mark) in
+        [(vec![(1100, 1)], 4096, 1100, 5, 29), (vec![(1100, 1)], 1120, 1120, 6, 30)]
     {
         let mut memory = vec![0; length];
         put(&mut memory, 0, &descriptor(64, 1026, 512, 100, 0));
@@ -731,7 +732,7 @@ fn faults_of_a_chain() {
             [
                 Event::Fetch { current: 0 },
                 moved(512, 64),
-                fault(512, bit),
+                fault(place, bit),
                 Event::Update { current: 0, word: 1 << mark },
             ]
         );
@@ -755,11 +756,11 @@ fn a_short_burst_judges_its_part_of_the_source_word() {
         let mut expected = before.clone();
         match sick {
             0x100..=0x102 => {
-                assert_eq!(all, [fault(4093, 5)]);
+                assert_eq!(all, [fault(sick, 5)]);
                 assert_eq!(read(&engine, CDMASR), 0x0001_402a);
             }
             0x103..=0x107 => {
-                assert_eq!(all, [moved(4093, 3), fault(4096, 5)]);
+                assert_eq!(all, [moved(4093, 3), fault(sick, 5)]);
                 put(&mut expected, 4093, &[1, 2, 3]);
                 assert_eq!(read(&engine, CDMASR), 0x0001_402a);
             }
@@ -777,11 +778,11 @@ fn a_short_burst_judges_its_part_of_the_source_word() {
 #[test]
 fn a_source_word_partly_past_the_end() {
     for (length, all) in [
-        (8192, vec![fault(4093, 6)]),
-        (8193, vec![fault(4093, 6)]),
-        (8194, vec![fault(4093, 6)]),
-        (8195, vec![moved(4093, 3), fault(4096, 6)]),
-        (8199, vec![moved(4093, 3), fault(4096, 6)]),
+        (8192, vec![fault(8192, 6)]),
+        (8193, vec![fault(8193, 6)]),
+        (8194, vec![fault(8194, 6)]),
+        (8195, vec![moved(4093, 3), fault(8195, 6)]),
+        (8199, vec![moved(4093, 3), fault(8199, 6)]),
         (8200, vec![moved(4093, 3), moved(4096, 5)]),
     ] {
         let mut memory = vec![0; length];
@@ -809,16 +810,16 @@ fn a_fixed_side_is_its_word_alone() {
         // One byte less memory, or one sick byte in the word.
         let mut engine = moving((4, 16), control, (source, destination, 64));
         let before = memory.clone();
-        assert_eq!(finish(&mut engine, &mut memory[..255], &[]), [fault(start, 6)]);
+        assert_eq!(finish(&mut engine, &mut memory[..255], &[]), [fault(255, 6)]);
         for sick in 252..256 {
             let mut engine = moving((4, 16), control, (source, destination, 64));
-            assert_eq!(finish(&mut engine, &mut memory, &[(sick, 1)]), [fault(start, 5)]);
+            assert_eq!(finish(&mut engine, &mut memory, &[(sick, 1)]), [fault(sick, 5)]);
             assert_eq!(memory, before);
         }
     }
 }
 
-/// Decode wins over slave, whichever side gives it.
+/// Decode wins over slave, whichever side gives it, and that side's byte is named.
 #[test]
 fn both_sides_are_judged_together() {
     for (control, source, destination) in
@@ -826,7 +827,7 @@ fn both_sides_are_judged_together() {
     {
         let mut memory = vec![3; 256];
         let mut engine = moving((4, 16), control, (source, destination, 8));
-        assert_eq!(finish(&mut engine, &mut memory, &[(64, 4)]), [fault(destination, 6)]);
+        assert_eq!(finish(&mut engine, &mut memory, &[(64, 4)]), [fault(300, 6)]);
         assert_eq!(read(&engine, CDMASR), 0x0001_404a);
         assert_eq!(memory, [3; 256]);
     }
@@ -846,7 +847,7 @@ fn a_group_of_bytes_in_any_order() {
     assert_eq!(judge(&[(1 << 32) + 3]), Verdict::Decode);
 }
 
-/// Pieces written before a fault stay, and the fault names the queue.
+/// Pieces written before a fault stay, and the fault names the byte, whichever side it is of.
 #[test]
 fn a_fault_in_a_later_piece() {
     let mut memory = vec![0; 1024];
@@ -855,14 +856,14 @@ fn a_fault_in_a_later_piece() {
     let mut engine = moving((4, 16), WRITE, (257, 512, 200));
     // Byte 130 of the source is in the third piece.
     let all = finish(&mut engine, &mut memory, &[(257 + 130, 1)]);
-    assert_eq!(all, [moved(512, 64), moved(512, 64), fault(512, 5)]);
+    assert_eq!(all, [moved(512, 64), moved(512, 64), fault(387, 5)]);
     put(&mut expected, 512, &[125, 126, 127, 128]);
     assert_eq!(memory, expected);
     assert_eq!(read(&engine, CDMASR), 0x0001_402a);
-    // With a fixed source the fault names where the burst would have gone.
+    // With a fixed source, byte 130 of the destination.
     let mut engine = moving((4, 16), READ, (256, 512, 200));
     let all = finish(&mut engine, &mut memory, &[(512 + 130, 1)]);
-    assert_eq!(all, [moved(512, 64), moved(576, 64), fault(640, 5)]);
+    assert_eq!(all, [moved(512, 64), moved(576, 64), fault(642, 5)]);
 }
 
 #[test]
@@ -873,10 +874,12 @@ fn queues_past_the_end_of_memory() {
             for count in [4, 64, 128, 8_388_604] {
                 let mut memory = vec![0; length];
                 let mut engine = moving((4, 16), READ, (queue, 0, count));
-                assert_eq!(finish(&mut engine, &mut memory, &[]), [fault(0, 6)]);
+                assert_eq!(finish(&mut engine, &mut memory, &[]), [fault(queue, 6)]);
                 for control in [WRITE, BOTH] {
                     let mut engine = moving((4, 16), control, (0, queue, count));
-                    assert_eq!(finish(&mut engine, &mut memory, &[]), [fault(queue, 6)]);
+                    // Without any memory the source fails too.
+                    let place = if length == 0 { 0 } else { queue };
+                    assert_eq!(finish(&mut engine, &mut memory, &[]), [fault(place, 6)]);
                     assert_eq!(read(&engine, CDMASR), 0x0001_404a);
                 }
             }
@@ -1003,14 +1006,14 @@ fn what_is_judged_off_the_multiples() {
     for sick in 62..74 {
         let mut engine = off_the_multiples((8, 16), READ, transfer);
         let used = [70, 71, 64, 65].contains(&sick);
-        let expected = if used { fault(206, 5) } else { moved(206, 4) };
+        let expected = if used { fault(sick, 5) } else { moved(206, 4) };
         assert_eq!(finish(&mut engine, &mut vec![0; 256], &[(sick, 1)]), [expected]);
     }
     let transfer = Transfer { source: 200, destination: 64, total: 10, moved: 6 };
     for sick in 62..74 {
         let mut engine = off_the_multiples((8, 16), WRITE, transfer);
         let used = [70, 71, 64, 65].contains(&sick);
-        let expected = if used { fault(64, 5) } else { moved(64, 4) };
+        let expected = if used { fault(sick, 5) } else { moved(64, 4) };
         assert_eq!(finish(&mut engine, &mut vec![0; 256], &[(sick, 1)]), [expected]);
     }
     // A word that runs past the memory's end, of which two bytes are used.
@@ -1018,14 +1021,16 @@ fn what_is_judged_off_the_multiples() {
     let mut engine = off_the_multiples((8, 16), WRITE, transfer);
     assert_eq!(finish(&mut engine, &mut vec![0; 255], &[]), [moved(253, 2)]);
     let mut engine = off_the_multiples((8, 16), WRITE, transfer);
-    assert_eq!(finish(&mut engine, &mut vec![0; 254], &[]), [fault(253, 6)]);
+    assert_eq!(finish(&mut engine, &mut vec![0; 254], &[]), [fault(254, 6)]);
     // And one that runs past the last address.
     for control in [READ, WRITE, BOTH] {
         let transfer =
             Transfer { source: u32::MAX - 1, destination: u32::MAX - 1, total: 300, moved: 1 };
         let mut engine = off_the_multiples((8, 16), control, transfer);
-        let start = if control == READ { u32::MAX } else { u32::MAX - 1 };
-        assert_eq!(finish(&mut engine, &mut vec![0; 256], &[]), [fault(start, 6)]);
+        // Byte 1 is at the last address. A piece of 128 bytes goes round a fixed source, down to
+        // its start; with a fixed source alone the burst ends with the page, after one byte.
+        let place = if control == BOTH { u32::MAX - 1 } else { u32::MAX };
+        assert_eq!(finish(&mut engine, &mut vec![0; 256], &[]), [fault(place, 6)]);
     }
 }
 
@@ -1039,8 +1044,9 @@ fn well_formed_knows_no_key_hole() {
             let mut engine = Engine { phase: Phase::Move(transfer), ..idle(4, 16, control) };
             if (source, destination) == (good, good) {
                 assert_eq!(engine.read(CDMACR), (0, 0x0001_0002 | control));
-                let start = if control & WRITE == 0 { u32::MAX } else { good };
-                assert_eq!(engine.step(&mut [], &[]), (0, fault(start, 6)));
+                // Both sides fail, and the source is named: byte 64 of a fixed one is its first.
+                let place = if control & READ == 0 { u32::MAX } else { good };
+                assert_eq!(engine.step(&mut [], &[]), (0, fault(place, 6)));
             } else {
                 assert_eq!(engine.read(CDMACR), (answer::STATE, 0));
                 assert_eq!(engine.write(CDMACR, control), answer::STATE);
@@ -1131,7 +1137,7 @@ fn a_trace_of_pieces() {
          6 move 4092 64\n6 move 4092 64\n6 stop 2 0\n7 move 4092 20\n7 stop 1 1\n",
     );
     assert_eq!(memory[4091..4097], [0, 145, 146, 147, 148, 0]);
-    // The second piece's source is sick: a fault at the queue, bit 5.
+    // The second piece's source is sick: a fault at its byte, bit 5.
     let trace = Trace::new()
         .sw(1, 330, 1)
         .wr(2, 0, WRITE)
@@ -1143,7 +1149,7 @@ fn a_trace_of_pieces() {
     lists(
         &trace,
         "0 set 4 64\n1 window 330 1\n2 write 0 0\n3 write 24 0\n4 write 32 0\n5 write 40 0\n\
-         6 move 4092 64\n6 fault 4092 5\n6 stop 2 1\n7 read 4 81962\n",
+         6 move 4092 64\n6 fault 330 5\n6 stop 2 1\n7 read 4 81962\n",
     );
     // A queue past the program's memory: bit 6.
     let trace = Trace::new().wr(1, 0, BOTH).wr(2, 32, 32768).wr(3, 40, 148).st(4, 9);

@@ -196,7 +196,7 @@ fn steps_of_a_chain() {
     good(
         &trace,
         &format!(
-            "1 memory 32704 32\n{head}13 fetch 32704 0\n13 fault 9 6\n\
+            "1 memory 32704 32\n{head}13 fetch 32704 0\n13 fault 40000 6\n\
              13 update 32704 1073741824\n13 stop 3 1\n"
         ),
     );

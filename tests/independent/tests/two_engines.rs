@@ -303,7 +303,7 @@ fn one_list_of_windows() {
     let memory = lists(
         &trace,
         "0 set 4 16\n1 window 520 1\n2 write 24 0\n3 write 32 0\n4 write 40 0\n5 write 24 0\n\
-         6 write 32 0\n7 write 40 0\n8 fault 512 5\n8 stop 1 1\n9 fault 1024 5\n9 stop 1 1\n\
+         6 write 32 0\n7 write 40 0\n8 fault 520 5\n8 stop 1 1\n9 fault 520 5\n9 stop 1 1\n\
          10 read 4 81962\n11 read 4 81962\n12 write 0 0\n13 memory 521 65\n14 write 24 0\n\
          15 write 32 0\n16 write 40 0\n17 move 1024 64\n17 stop 1 0\n18 window 1088 1\n\
          19 fault 1088 5\n19 stop 1 1\n20 read 4 81962\n21 read 4 81962\n",

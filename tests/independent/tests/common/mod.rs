@@ -255,9 +255,7 @@ pub fn slow_listing(bytes: &[u8], mut beats: u32, default_line: &str) -> String 
                         Event::None => panic!("a busy engine did nothing"),
                         Event::Fetch { current } => format!("{n} fetch {current} 0\n"),
                         Event::Move { start, bytes } => format!("{n} move {start} {bytes}\n"),
-                        Event::Fault { destination, bit } => {
-                            format!("{n} fault {destination} {bit}\n")
-                        }
+                        Event::Fault { place, bit } => format!("{n} fault {place} {bit}\n"),
                         Event::Update { current, word } => format!("{n} update {current} {word}\n"),
                         Event::Halt { current, bit } => format!("{n} halt {current} {bit}\n"),
                     };

@@ -2,6 +2,7 @@
 // single cases at the edges of the record rules.
 
 use crate::damage::{BAD_SETTINGS, UNKNOWN_MARKS};
+use crate::fault_cases;
 use crate::maker::{Record, MEMORY};
 use crate::pair_cases;
 use independent::engine::Engine;
@@ -187,6 +188,7 @@ fn cases() -> Vec<Vec<u8>> {
         all.extend(BEATS.map(|beats| queues(width, beats)));
     }
     all.extend(large());
+    all.extend(fault_cases::cases());
     all.extend(pair_cases::cases());
     all
 }
@@ -360,12 +362,12 @@ fn fixed_starts(width: u32) -> Vec<u8> {
     numbered(&all)
 }
 
-/// The word at `address` in a fault line, as the destination of a descriptor.
+/// The word at `address` in a line, as the destination of a descriptor for one byte of good memory.
 fn shown(address: u32) -> Vec<Record> {
-    let failing = descriptor(0, u32::MAX, 0, 1, 0, 0);
+    let bytes = descriptor(0, address, 0, 1, 0, 0);
     vec![
         write(0, 4),
-        Record::Memory { address: 64, bytes: failing },
+        Record::Memory { address: 64, bytes },
         write(0x18, address),
         write(0x20, 64 + 0x10),
         write(0x28, 4),

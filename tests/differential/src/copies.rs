@@ -1,5 +1,6 @@
-// Simple transfers, and a way to see memory: the listing never prints a byte of it, but the fault
-// of a descriptor prints its destination. So a word is copied there, and a wrong copy shows.
+// Simple transfers, and a way to see memory: the listing never prints a byte of it, but a burst of
+// one byte from a good source prints its destination, be it moved or failed. So a word is copied
+// there, and a wrong copy shows.
 
 use crate::maker::{Maker, MEMORY};
 use crate::pokes::{count_value, look, ready, run};
@@ -77,7 +78,8 @@ fn ends(maker: &mut Maker, count: u32) -> (u32, u32) {
     }
 }
 
-/// Shows the word at `address` as the destination of a descriptor that fails on its source.
+/// Shows the word at `address` as the destination of a descriptor for one byte. Its source is good,
+/// or the fault would name that.
 pub fn peek(maker: &mut Maker, address: u32) {
     if !maker.sound(address, 4) {
         return;
@@ -90,7 +92,7 @@ pub fn peek(maker: &mut Maker, address: u32) {
         maker.write(CDMACR, RESET);
     }
     let fill = maker.random.u32();
-    maker.memory(place, descriptor(0, u32::MAX, 0, 1, 0, fill));
+    maker.memory(place, descriptor(0, address, 0, 1, 0, fill));
     maker.start_copy(address, place + 0x10, 4);
     maker.steps(1);
     maker.write(CDMACR, CHAIN);

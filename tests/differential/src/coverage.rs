@@ -2,6 +2,7 @@
 
 use shared::clocks::FLAGS;
 use shared::coverage::{Counts, Groups, CDMACR_BITS, CDMASR_BITS};
+use shared::fault_place::PLACES;
 use shared::key_hole::{RUNS, WRITES};
 use shared::key_hole_bursts::BURSTS;
 
@@ -31,7 +32,7 @@ const NUMBERED: &Groups = &[
 
 pub fn new() -> Counts {
     let of_pairs = [observe_pairs::RECORDS, observe_pairs::ENGINES, observe_pairs::MEETINGS];
-    let names = [&WORDS[..], SITUATIONS, CONVERSIONS, WRITES, BURSTS, RUNS, &FAMILIES];
+    let names = [&WORDS[..], SITUATIONS, CONVERSIONS, WRITES, BURSTS, RUNS, PLACES, &FAMILIES];
     let names = names.into_iter().chain(of_pairs);
     let groups = [NUMBERED, observe_pairs::NUMBERED].concat();
     Counts::new(&groups, names.flatten().copied())
@@ -48,6 +49,7 @@ pub fn print(counts: &Counts) -> usize {
         + counts.print_list("key hole bits written", WRITES)
         + counts.print_list("bursts with a fixed side", BURSTS)
         + counts.print_list("runs with a fixed side", RUNS)
+        + counts.print_list("places of faults", PLACES)
         + counts.print_numbers(observe_pairs::NUMBERED)
         + counts.print_list("records of traces with two engines", observe_pairs::RECORDS)
         + counts.print_list("two engines", observe_pairs::ENGINES)

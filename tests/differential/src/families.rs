@@ -3,14 +3,14 @@
 use std::sync::OnceLock;
 
 use crate::maker::Maker;
-use crate::{catalogue, chains, clocks, copies, damage, pairs, pokes, queues};
+use crate::{catalogue, chains, clocks, copies, damage, faults, pairs, pokes, queues};
 use shared::clocks::FLAGS;
 use shared::random::Random;
 
 /// The seed of the fixed traces.
 pub const FIXED: u64 = 1;
 
-pub const FAMILIES: [&str; 16] = [
+pub const FAMILIES: [&str; 17] = [
     "case",
     "prefix",
     "changed byte",
@@ -18,6 +18,7 @@ pub const FAMILIES: [&str; 16] = [
     "copies",
     "chains",
     "queues",
+    "faults",
     "clocks",
     "refused",
     "damaged",
@@ -47,7 +48,7 @@ pub fn fixed(index: u64) -> (&'static str, Vec<u8>) {
 /// The trace generated from `seed` and `index`.
 pub fn generated(seed: u64, index: u64) -> (&'static str, Vec<u8>) {
     let mut random = Random::new(seed, index);
-    let family = match random.below(125) {
+    let family = match random.below(137) {
         0..=32 => "deep",
         33..=45 => "copies",
         46..=61 => "chains",
@@ -60,7 +61,8 @@ pub fn generated(seed: u64, index: u64) -> (&'static str, Vec<u8>) {
         100..=115 => "two engines",
         116..=119 => "two engines, refused",
         120..=122 => "two engines, damaged",
-        _ => "other form",
+        123..=124 => "other form",
+        _ => "faults",
     };
     (family, trace(family, random))
 }
@@ -102,6 +104,11 @@ fn trace(family: &str, mut random: Random) -> Vec<u8> {
         "queues" => {
             for _ in 0..maker.random.between(2, 5) {
                 queues::queue(&mut maker);
+            }
+        }
+        "faults" => {
+            for _ in 0..maker.random.between(2, 6) {
+                faults::fault(&mut maker);
             }
         }
         "clocks" => {
@@ -167,7 +174,7 @@ fn trace(family: &str, mut random: Random) -> Vec<u8> {
 
 /// One scene of a trace.
 pub fn play(maker: &mut Maker) {
-    match maker.random.below(100) {
+    match maker.random.below(104) {
         0..=29 => copies::copy(maker),
         30..=62 => chains::chain(maker),
         63..=77 => {
@@ -178,7 +185,8 @@ pub fn play(maker: &mut Maker) {
         }
         78..=89 => clocks::some(maker),
         90..=94 => pokes::window(maker),
-        _ => pokes::memory(maker),
+        95..=99 => pokes::memory(maker),
+        _ => faults::fault(maker),
     }
 }
 

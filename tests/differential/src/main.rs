@@ -10,6 +10,8 @@ mod copies;
 mod coverage;
 mod damage;
 mod families;
+mod fault_cases;
+mod faults;
 mod feed;
 mod maker;
 mod observe;

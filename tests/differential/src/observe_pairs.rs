@@ -7,8 +7,10 @@ use independent::record::{read, Cause, Form, Record};
 use independent::trace::Replay;
 use shared::bursts::{share, Burst, Bytes};
 use shared::coverage::{Counts, Groups};
+use shared::fault_place::at_destination;
 use shared::registers::{none_at, CDMACR, RESET};
 
+use crate::maker::MEMORY;
 use crate::observe::{behind_zero, see_settings};
 use crate::observe_steps::{Memo, Step};
 
@@ -68,6 +70,11 @@ pub const ENGINES: &[&str] = &[
     "window met by engine 1 while engine 2 is busy",
     "window met by engine 2 while engine 1 is busy",
     "burst of engine 2 that the default settings would cut another way",
+    "source byte of engine 1 named by a fault while engine 2 is busy",
+    "source byte of engine 2 named by a fault while engine 1 is busy",
+    "destination byte of engine 1 named by a fault while engine 2 is busy",
+    "destination byte of engine 2 named by a fault while engine 1 is busy",
+    "byte named by a fault of both engines",
 ];
 
 /// Where the two meet.
@@ -149,6 +156,8 @@ pub struct Pair {
     turns: u32,
     /// The engine in turn at the last clock.
     clocked: usize,
+    /// Where each engine's last fault was.
+    places: [Option<u32>; 2],
 }
 
 impl Pair {
@@ -265,6 +274,9 @@ impl Pair {
         let turn = step.turn;
         self.see_turn(step, other, coverage);
         see_meeting(step, other, memo, coverage);
+        if let Event::Fault { place, .. } = step.event {
+            self.fault(step, place, other, coverage);
+        }
         let failed = matches!(step.event, Event::Fault { .. } | Event::Halt { .. });
         if failed && !other.idle() {
             self.since[1 - turn].failed = true;
@@ -278,6 +290,24 @@ impl Pair {
         self.since[turn] = Since::default();
         self.since[1 - turn].stepped = true;
         self.stepped = turn;
+    }
+
+    fn fault(&mut self, step: &Step, place: u32, other: &Engine, coverage: &mut Counts) {
+        self.places[step.turn] = Some(place);
+        let both = self.places[0] == self.places[1];
+        coverage.see_if(both, "byte named by a fault of both engines");
+        let rows = if at_destination(step.before, MEMORY.into(), step.windows) {
+            [
+                "destination byte of engine 1 named by a fault while engine 2 is busy",
+                "destination byte of engine 2 named by a fault while engine 1 is busy",
+            ]
+        } else {
+            [
+                "source byte of engine 1 named by a fault while engine 2 is busy",
+                "source byte of engine 2 named by a fault while engine 1 is busy",
+            ]
+        };
+        coverage.see_if(!other.idle(), rows[step.turn]);
     }
 
     fn see_turn(&mut self, step: &Step, other: &Engine, coverage: &mut Counts) {
@@ -443,9 +473,10 @@ fn see_meeting(step: &Step, other: &Engine, memo: &Memo, coverage: &mut Counts) 
             let stale = by_other(&bytes(current + STATUS, 4));
             coverage.see_if(stale, "descriptor stale by the other engine's update");
         }
-        Event::Fault { .. } if step.before.sg_mode => {
-            let shown = memo.own[step.turn].shown.engine == Some(1 - step.turn);
-            coverage.see_if(shown, "word of the other engine shown by a fault line");
+        Event::Fault { place, .. } => {
+            let shown = memo.own[step.turn].shown(step.before, place).engine;
+            let by_other = shown == Some(1 - step.turn);
+            coverage.see_if(by_other, "word of the other engine shown by a fault line");
         }
         _ => {}
     }

@@ -1,9 +1,10 @@
 // Counts what the steps of a run did.
 
-use independent::engine::{Engine, Event, Outcome, Phase};
+use independent::engine::{Engine, Event, Outcome, Phase, Transfer};
 use independent::memory::{Window, MOST_WINDOWS};
 use shared::bursts::{full_piece, Burst, Side};
 use shared::coverage::Counts;
+use shared::fault_place::see_place;
 use shared::key_hole::{see_start, BY_DESCRIPTOR};
 use shared::key_hole_bursts::see_burst;
 
@@ -46,10 +47,25 @@ pub struct Own {
     /// The tail that was replaced while busy.
     pub old_tail: Option<u32>,
     pub descriptors: u32,
-    /// Of the destination of the fetched descriptor, what all its bytes have.
-    pub shown: Written,
+    /// Of source and destination of the fetched descriptor, what all bytes of the word have.
+    fetched: [Written; 2],
     /// The fetched descriptor has a fixed side off the multiples.
     off: bool,
+}
+
+impl Own {
+    /// What the word of a descriptor has that is the first number of a step's line, and so can be
+    /// seen: the start of its first burst, or the place of a fault there.
+    pub fn shown(&self, before: &Engine, first: u32) -> Written {
+        match before.phase {
+            Phase::Move(Transfer { source, destination, moved: 0, .. }) if before.sg_mode => {
+                let starts = [source, destination];
+                let at = starts.iter().position(|start| *start == first);
+                at.map_or(Written::default(), |at| self.fetched[at])
+            }
+            _ => Written::default(),
+        }
+    }
 }
 
 /// What is remembered of a trace from record to record.
@@ -85,7 +101,7 @@ pub fn one_step(step: &Step, memo: &mut Memo, coverage: &mut Counts) {
         Event::Fetch { current } => fetched(step, current, memo, coverage),
         Event::Halt { current, bit } => halted(step, current, bit, memo, coverage),
         Event::Move { start, bytes } => moved(step, start, bytes, memo, coverage),
-        Event::Fault { .. } => failed(step, memo, coverage),
+        Event::Fault { place, .. } => failed(step, place, memo, coverage),
         Event::Update { current, word } => updated(step, current, word, memo, coverage),
     }
 }
@@ -104,14 +120,16 @@ fn fetched(step: &Step, current: u32, memo: &mut Memo, coverage: &mut Counts) {
     }
     own.mode_changed = false;
     own.at_tail = false;
-    let destination = &memo.written[at + 0x10..at + 0x14];
-    let engine = destination[0].engine;
-    own.shown = Written {
-        engine: engine.filter(|_| destination.iter().all(|byte| byte.engine == engine)),
-        copied: destination.iter().all(|byte| byte.copied),
-        from_queue: destination.iter().all(|byte| byte.from_queue),
-        through_queue: destination.iter().all(|byte| byte.through_queue),
-    };
+    own.fetched = [0x08, 0x10].map(|place| {
+        let bytes = &memo.written[at + place..at + place + 4];
+        let engine = bytes[0].engine;
+        Written {
+            engine: engine.filter(|_| bytes.iter().all(|byte| byte.engine == engine)),
+            copied: bytes.iter().all(|byte| byte.copied),
+            from_queue: bytes.iter().all(|byte| byte.from_queue),
+            through_queue: bytes.iter().all(|byte| byte.through_queue),
+        }
+    });
     coverage.see_if(current == MEMORY - 64, "descriptor in the last place of memory");
     coverage.see_if(word(0x1c) != 0, "status bits below 31 at a good fetch");
     coverage.see_if(step.after.held_next == current, "next pointer to the descriptor itself");
@@ -221,6 +239,8 @@ fn moved(step: &Step, to: u32, bytes: u32, memo: &mut Memo, coverage: &mut Count
             coverage.see_if(inside, "empty window inside a good burst");
         }
     }
+    let shown = memo.own[step.turn].shown(step.before, to).copied;
+    coverage.see_if(shown, "copied word shown by a move line");
     if step.before.sg_mode {
         let over = |place: u32| to < place.saturating_add(32) && place < to + bytes;
         coverage.see_if(over(step.before.current), "burst over its own descriptor");
@@ -230,8 +250,9 @@ fn moved(step: &Step, to: u32, bytes: u32, memo: &mut Memo, coverage: &mut Count
     }
 }
 
-fn failed(step: &Step, memo: &Memo, coverage: &mut Counts) {
+fn failed(step: &Step, place: u32, memo: &Memo, coverage: &mut Counts) {
     let burst = burst(step);
+    see_place(step.before, MEMORY.into(), step.windows, place, coverage);
     if burst.has_fixed_side() {
         see_burst(step.before, MEMORY.into(), step.windows, false, coverage);
         return;
@@ -264,12 +285,11 @@ fn failed(step: &Step, memo: &Memo, coverage: &mut Counts) {
             _ => "window over the destination",
         });
     }
-    if step.before.sg_mode && done == 0 {
-        let Written { copied, from_queue, through_queue, .. } = memo.own[step.turn].shown;
-        coverage.see_if(copied, "copied word shown by a fault line");
-        coverage.see_if(from_queue, "word from a fixed source shown by a fault line");
-        coverage.see_if(through_queue, "word of a fixed destination shown by a fault line");
-    }
+    let Written { copied, from_queue, through_queue, .. } =
+        memo.own[step.turn].shown(step.before, place);
+    coverage.see_if(copied, "copied word shown by a fault line");
+    coverage.see_if(from_queue, "word from a fixed source shown by a fault line");
+    coverage.see_if(through_queue, "word of a fixed destination shown by a fault line");
 }
 
 fn updated(step: &Step, current: u32, word: u32, memo: &mut Memo, coverage: &mut Counts) {

@@ -316,7 +316,8 @@ fn meeting(met: usize, ahead: u16) -> Vec<u8> {
     all.push(memory(64, descriptor(128, 1024, 2048, 40, 0, 0)));
     all.push(memory(128, descriptor(0, 1060, 2088, 20, 0, 0)));
     all.push(memory(1024, (1..=80).collect()));
-    // A descriptor that fails on its source: its fault line shows that it was fetched.
+    // A descriptor that fails on its source, at the memory's end: its fault line shows that it was
+    // fetched.
     all.push(memory(3000, descriptor(64, MEMORY, 777, 8, 0, 0)));
     all.extend(chain(1, 64, 128));
     all.push(steps(1, ahead));
@@ -329,9 +330,10 @@ fn meeting(met: usize, ahead: u16) -> Vec<u8> {
     numbered(&all)
 }
 
-/// The word at `address` in a fault line of engine 1, copied there by engine 2.
+/// The word at `address` in a line of engine 1, as the destination of a descriptor for one byte of
+/// good memory, copied there by engine 2.
 fn show(address: u32) -> Vec<Numbered> {
-    let mut all = vec![memory(512, descriptor(0, u32::MAX, 0, 1, 0, 0))];
+    let mut all = vec![memory(512, descriptor(0, address, 0, 1, 0, 0))];
     all.push(write(2, CDMACR, RESET));
     all.extend(copy(2, address, 512 + 0x10, 4));
     all.extend([steps(2, 1)]);

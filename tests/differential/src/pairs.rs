@@ -7,7 +7,7 @@ use crate::copies::peek;
 use crate::families::play;
 use crate::maker::{Maker, MEMORY};
 use crate::pokes::{interject, look, poke, ready, run};
-use crate::{chains, queues};
+use crate::{chains, faults, queues};
 use shared::record::descriptor;
 use shared::registers::{kept, BTT, CDMACR, CDMASR, CHAIN, CURDESC, DA, RESET, SA, TAILDESC};
 
@@ -83,7 +83,7 @@ pub fn place(maker: &mut Maker) -> u32 {
 
 /// Starts something of several steps on the engine in turn.
 fn begin(maker: &mut Maker) {
-    match maker.random.below(10) {
+    match maker.random.below(12) {
         0..=3 => {
             ready(maker, false);
             let count = (maker.random.between(2, 8) * maker.unit()).min(6000);
@@ -93,7 +93,8 @@ fn begin(maker: &mut Maker) {
         4..=7 => {
             chains::begin(maker);
         }
-        _ => queues::begin(maker),
+        8..=9 => queues::begin(maker),
+        _ => faults::begin(maker),
     }
 }
 
@@ -155,14 +156,18 @@ fn cross(maker: &mut Maker) {
     }
 }
 
-/// Writes a descriptor over the one that the other engine fetches next: it fails on its source, and
-/// its fault line shows which of the two was fetched.
+/// Writes a descriptor over the one that the other engine fetches next: it fails on its source or on
+/// its destination, and the place in its fault line shows which of the two was fetched.
 fn redirect(maker: &mut Maker) {
     let other = maker.other().expect("two engines");
     let place = if other.phase == Phase::Fetch { other.current } else { other.held_next };
     let next = if maker.random.chance(50) { place } else { maker.descriptor_place() };
-    let destination = maker.random.u32();
-    let source = maker.random.pick(&[u32::MAX, MEMORY, MEMORY - 1]);
+    let past_the_end = maker.random.u32() | MEMORY;
+    let (source, destination) = if maker.random.chance(50) {
+        (past_the_end, maker.random.u32())
+    } else {
+        (maker.sound_place(2), past_the_end)
+    };
     let cargo = maker.anywhere(32);
     maker.memory(cargo, descriptor(next, source, destination, 2, 0, 0));
     maker.start_copy(cargo, place, 32);

@@ -23,6 +23,7 @@ pub const SITUATIONS: &[&str] = &[
     "burst over the next descriptor",
     "update after a fixed side off the multiples",
     "copied word shown by a fault line",
+    "copied word shown by a move line",
     "word from a fixed source shown by a fault line",
     "word of a fixed destination shown by a fault line",
     // Resets.

@@ -3,6 +3,7 @@ pub mod bursts;
 pub mod clocks;
 pub mod coverage;
 pub mod crew;
+pub mod fault_place;
 #[cfg(feature = "library")]
 pub mod interface;
 pub mod key_hole;

@@ -140,7 +140,7 @@ pub fn cases() -> Vec<Vec<u8>> {
     let mut all: Vec<_> = SCENES.iter().map(in_both_modes).collect();
     for width in [4, 8, 128] {
         for back_first in [false, true] {
-            all.push(gone_round(width, back_first));
+            all.extend([1, 3].map(|words| gone_round(width, words, back_first)));
         }
     }
     all.extend(BY_BOTH.iter().map(by_two_engines));
@@ -157,14 +157,15 @@ fn in_both_modes(&(sides, copy, sick): &Scene) -> Vec<u8> {
     numbered(false, &all)
 }
 
-/// The second burst of a fixed source goes from the midst of its word to its end and on from its
-/// start. A window over one part and then one over the other part come before it.
-fn gone_round(width: u16, back_first: bool) -> Vec<u8> {
+/// The second burst of a fixed source goes from the midst of its word to its end and, with more than
+/// one word in all, on from its start. A window over one part and then one over the other part come
+/// before it.
+fn gone_round(width: u16, words: u32, back_first: bool) -> Vec<u8> {
     let word = u32::from(width);
     let mut all = settings(width, 16);
     // Each mode has a word of its own, since the windows stay.
     for (chain, source) in [(false, 1024), (true, 2048)] {
-        let copy = [source, 8192 - word / 2, 3 * word];
+        let copy = [source, 8192 - word / 2, words * word];
         all.extend(of(1, started(chain, KEY_HOLE_READ, copy)));
         all.push((1, Record::Steps { steps: if chain { 2 } else { 1 } }));
         let mut sick = [(source + word - 1, 1), (source + word / 2 - 1, 1)];

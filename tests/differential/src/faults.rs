@@ -232,8 +232,8 @@ fn begin_copy(maker: &mut Maker, mode: u32, copy: &Copy) {
 }
 
 /// A fixed source whose first burst ends with a page within its word: the second one goes round the
-/// word, from the midst to its end and on from its start. Windows come between them, or the first
-/// burst would meet those that are over its part of the word.
+/// word, from the midst to its end and on from its start, or ends with the word and misses the first
+/// part. Windows come between them, or the first burst would meet those that are over its part.
 fn go_round(maker: &mut Maker) {
     let mode = mode(maker, KEY_HOLE_READ);
     let width = maker.replay.engine().width;
@@ -242,7 +242,7 @@ fn go_round(maker: &mut Maker) {
     let copy = Copy {
         source: maker.aligned(source),
         destination: maker.random.between(1, 7) * PAGE - first,
-        count: maker.random.between(2, 4) * width,
+        count: maker.random.between(1, 4) * width,
         sides: KEY_HOLE_READ,
     };
     begin_copy(maker, mode, &copy);

@@ -23,10 +23,11 @@ pub enum Function {
     Step,
     Run,
     BusClock,
+    Judge,
 }
 
 /// The functions in the order of `Function`, each with the answers it can give.
-const FUNCTIONS: [(&str, &[u32]); 8] = [
+const FUNCTIONS: [(&str, &[u32]); 9] = [
     ("plan", &[0, 1, 7, 8]),
     ("count", &[0, 1, 7]),
     ("read", &[0, 1, 3, 9]),
@@ -35,10 +36,14 @@ const FUNCTIONS: [(&str, &[u32]); 8] = [
     ("step", &[0, 1, 2, 6, 9]),
     ("run", &[0, 1, 2, 6, 9]),
     ("bus_clock", &[0, 1, 9, 13]),
+    ("judge", &[0, 2, 6]),
 ];
 
+/// How many of them have settings; these come first.
+const WITH_SETTINGS: usize = 8;
+
 /// For each function, which answers were given where which other refusal held too.
-const BESIDE: [&[(u32, u32)]; 8] = [
+const BESIDE: [&[(u32, u32)]; 9] = [
     &[(1, 7), (1, 8), (7, 8)],
     &[(1, 7)],
     &[(1, 9), (1, 3), (9, 3)],
@@ -47,6 +52,7 @@ const BESIDE: [&[(u32, u32)]; 8] = [
     &[(1, 2), (1, 6), (1, 9), (2, 6), (2, 9), (6, 9)],
     &[(1, 2), (1, 6), (1, 9), (2, 6), (2, 9), (6, 9)],
     &[(1, 9), (1, 13), (9, 13)],
+    &[(2, 6)],
 ];
 
 const NUMBERED: &Groups = &[
@@ -61,6 +67,8 @@ const NUMBERED: &Groups = &[
     ("flag raised", &FLAGS),
     ("flag raised alone", &FLAGS),
     ("number of windows that were taken", &[0, 1, 2, 3, 4, 8, 15, 16]),
+    ("verdict of a group", &[0, 1, 2]),
+    ("window of a sick byte", &[0, 1, 2, 3, 14, 15]),
 ];
 
 /// What is counted beside the counts of every coverage table.
@@ -70,7 +78,7 @@ pub struct Coverage {
     answers: BTreeMap<(usize, u32), u64>,
     beside: BTreeMap<(usize, u32, u32), u64>,
     /// Calls that were done, by function, width and beats.
-    settings: [BySettings; 8],
+    settings: [BySettings; WITH_SETTINGS],
     /// Calls of `interrupt_line` by IOC_Irq, IOC_IrqEn, Err_Irq and Err_IrqEn.
     pub lines: [u64; 16],
     /// The lowest flag that was reported.
@@ -107,7 +115,7 @@ impl Coverage {
             counts: Counts::new(NUMBERED, names),
             answers: answers.map(|row| (row, 0)).collect(),
             beside: beside.map(|row| (row, 0)).collect(),
-            settings: [[[0; 8]; 6]; 8],
+            settings: [[[0; 8]; 6]; WITH_SETTINGS],
             lines: [0; 16],
             lowest: [0; 64],
             spoiled: [[0; 5]; KINDS.len()],
@@ -117,11 +125,16 @@ impl Coverage {
 
     /// Counts a call by its answer, and the settings it was done with.
     pub fn answer(&mut self, function: Function, answer: u32, width: u32, beats: u32) {
-        self.calls += 1;
-        *self.answers.entry((function as usize, answer)).or_insert(0) += 1;
+        self.answer_alone(function, answer);
         if let (0, Some((row, column))) = (answer, settings::place(width, beats)) {
             self.settings[function as usize][row][column] += 1;
         }
+    }
+
+    /// Counts a call of a function without settings by its answer.
+    pub fn answer_alone(&mut self, function: Function, answer: u32) {
+        self.calls += 1;
+        *self.answers.entry((function as usize, answer)).or_insert(0) += 1;
     }
 
     /// Counts the other refusals that would have held beside an answer.

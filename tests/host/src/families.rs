@@ -6,6 +6,7 @@ use crate::counts;
 use crate::coverage::Coverage;
 use crate::edges;
 use crate::joined;
+use crate::judged;
 use crate::large;
 use crate::lone_calls::lone_calls;
 use crate::pairs;
@@ -17,17 +18,19 @@ use shared::random::Random;
 type Case = fn(&mut Random, &mut Coverage) -> Result<(), String>;
 
 /// Cases that every run takes once.
-const ONCE: [(&str, Case); 19] = [
+const ONCE: [(&str, Case); 21] = [
     ("registers", edges::registers),
     ("interrupts", edges::interrupts),
     ("faults", edges::faults),
     ("no engines", edges::no_engines),
     ("settings", edges::settings),
     ("window counts", edges::window_counts),
+    ("judged groups", judged::edges),
     ("key hole bits", queue_edges::control),
     ("key hole starts", queue_edges::starts),
     ("key hole overlaps", queue_edges::overlaps),
     ("key hole sick words", queue_edges::sick_words),
+    ("key hole two sick bytes", queue_edges::two_sick_bytes),
     ("key hole pieces", queue_edges::pieces),
     ("clock fields", clock_edges::clock_fields),
     ("flags", clock_edges::flags),
@@ -40,15 +43,17 @@ const ONCE: [(&str, Case); 19] = [
 ];
 
 /// Families of random cases, in turn.
-const RANDOM: [(&str, Case); 8] = [
+const RANDOM: [(&str, Case); 10] = [
     ("session", session),
     ("lone calls", lone_calls),
     ("session", session),
     ("clocks", clocks),
     ("session", session),
     ("plans", plans::plans),
+    ("judged groups", judged::judged),
     ("runs joined", joined::joined),
     ("two engines", pairs::pairs),
+    ("judged groups beside steps", judged::beside_steps),
 ];
 
 /// How many cases come before the random ones.

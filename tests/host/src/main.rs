@@ -10,6 +10,7 @@ mod edges;
 mod engine_desk;
 mod families;
 mod joined;
+mod judged;
 mod large;
 mod lent;
 mod lone_calls;

@@ -10,6 +10,7 @@ use crate::observe::Seen;
 use crate::queues::any_fixed;
 use crate::reference::pairs;
 use shared::bursts::Burst;
+use shared::fault_place::see_place;
 use shared::interface::{Ran, Stepped};
 use shared::key_hole::{self, BY_DESCRIPTOR};
 use shared::key_hole_bursts::see_burst;
@@ -118,7 +119,11 @@ fn step(seen: &Seen, stepped: &Stepped, coverage: &mut Coverage) {
                 coverage.see_if(over, "burst overlapping its source");
             }
         }
-        FAULT_EVENT => coverage.number("bit of a fault", stepped.second),
+        FAULT_EVENT => {
+            coverage.number("bit of a fault", stepped.second);
+            let (engine, memory) = (engine(before), seen.memory.len() as u64);
+            see_place(&engine, memory, &pairs(seen.windows), stepped.first, coverage);
+        }
         UPDATE_EVENT => {
             coverage.number("bit of an updated word", stepped.second.trailing_zeros());
             let good = before[PHASE] == 31;

@@ -1,6 +1,6 @@
 // Cases of fixed sides that are gone through one by one: the two bits of CDMACR in every state,
-// starts on the multiples of W and off them, and bursts with every small overlap, every sick byte
-// and every end of memory around their words.
+// starts on the multiples of W and off them, and bursts with every small overlap, every sick byte,
+// every two of them and every end of memory around their words.
 
 use independent::cut::LONGEST as MOST_BYTES;
 
@@ -135,6 +135,27 @@ pub fn sick_words(random: &mut Random, coverage: &mut Coverage) -> Result<(), St
                     desk.set_words(&words);
                     desk.call(Call::Step, coverage)?;
                     desk.lend_memory(0, 512, false);
+                }
+            }
+        }
+    }
+    Ok(())
+}
+
+/// Two sick bytes, of one word or of both, in each part of a word that a burst can use.
+pub fn two_sick_bytes(_: &mut Random, coverage: &mut Coverage) -> Result<(), String> {
+    for (width, sides) in [4, 8].into_iter().flat_map(|width| SIDES.map(|sides| (width, sides))) {
+        let mut desk = EngineDesk::new(&fresh(width, 4), 512);
+        for (moved, left) in (0..width).flat_map(|moved| (1..=width).map(move |left| (moved, left)))
+        {
+            for [source, destination] in [[64, 256], [256, 64]] {
+                let words = moving((width, 4), sides, [source, destination, moved + left, moved]);
+                for (one, other) in (0..width).flat_map(|one| (0..width).map(move |at| (one, at))) {
+                    for [first, second] in [[source; 2], [destination; 2], [source, destination]] {
+                        desk.lend_windows(&[first + one, 1, second + other, 1], false);
+                        desk.set_words(&words);
+                        desk.call(Call::Step, coverage)?;
+                    }
                 }
             }
         }

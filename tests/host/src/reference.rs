@@ -4,9 +4,9 @@
 use independent::answer::{self, settings_listed};
 use independent::cut::{self, plan_bytes};
 use independent::engine::Event;
-use independent::memory::{Window, LONGEST, MOST_WINDOWS};
+use independent::memory::{self, Window, LONGEST, MOST_WINDOWS};
 
-use shared::interface::{Clock, Clocked, Planned, Ran, Stepped, Value};
+use shared::interface::{Clock, Clocked, Judged, Planned, Ran, Stepped, Value};
 use shared::words::{self, EngineWords, MonitorWords, BEATS, WIDTH};
 
 pub fn plan(width: u32, beats: u32, start: u32, count: u32, places: &mut [u8]) -> Planned {
@@ -17,6 +17,12 @@ pub fn plan(width: u32, beats: u32, start: u32, count: u32, places: &mut [u8]) -
 pub fn count(width: u32, beats: u32, start: u32, count: u32) -> Planned {
     let (answer, bursts) = cut::count(width, beats, start, count);
     Planned { answer, bursts }
+}
+
+pub fn judge(memory_bytes: usize, windows: &[u32], start: u32, bytes: u32) -> Judged {
+    let memory::Judged { answer, verdict, place, window } =
+        memory::judge(memory_bytes, windows, start, bytes);
+    Judged { answer, verdict, place, window }
 }
 
 /// The answer for the words of no engine, where nothing before it is refused.
@@ -85,7 +91,7 @@ pub fn told(answer: u32, event: Event) -> Stepped {
         Event::None => (0, 0, 0),
         Event::Fetch { current } => (1, current, 0),
         Event::Move { start, bytes } => (2, start, bytes),
-        Event::Fault { destination, bit } => (3, destination, bit),
+        Event::Fault { place, bit } => (3, place, bit),
         Event::Update { current, word } => (4, current, word),
         Event::Halt { current, bit } => (5, current, bit),
     };

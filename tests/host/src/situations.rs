@@ -1,6 +1,6 @@
 // The named rows of the coverage table. The observers say when each of them is met.
 
-use shared::{key_hole, key_hole_bursts};
+use shared::{fault_place, key_hole, key_hole_bursts};
 
 pub const SITUATIONS: &[(&str, &[&str])] = &[
     (
@@ -112,6 +112,54 @@ pub const SITUATIONS: &[(&str, &[&str])] = &[
     ("bursts with a fixed side", key_hole_bursts::BURSTS),
     ("bursts with a fixed side, off the multiples of W", key_hole_bursts::BURSTS_OFF_THE_MULTIPLES),
     ("runs with a fixed side", key_hole::RUNS),
+    ("places of faults", fault_place::PLACES),
+    ("places of faults that no trace has", fault_place::PLACES_OF_STATES),
+    (
+        "judged groups",
+        &[
+            "group of no bytes",
+            "group of no bytes past the memory's end",
+            "group of no bytes in a window",
+            "good group up to the memory's end",
+            "group one byte past the memory's end",
+            "group from the memory's end on",
+            "group past the memory's end",
+            "memory's end inside a group",
+            "group up to 2^32",
+            "group that passes 2^32",
+            "group of 2^32 - 1 bytes",
+            "group from 2^32 - 1 on",
+            "group of a memory of no bytes",
+            "group of a memory of 16,777,216 bytes",
+            "group of a memory of 16,777,217 bytes",
+            "group of a memory above 2^32 bytes, of few in their low 32 bits",
+            "group beside no windows at a null pointer",
+            "group beside sixteen windows",
+            "group beside sixteen windows and an odd number",
+            "group beside seventeen windows",
+            "group beside seventeen windows and an odd number",
+            "group beside more than seventeen windows",
+            "odd last number in the place of a good group",
+            "empty window in a good group",
+            "window that ends at a good group",
+            "window that starts behind a good group",
+            "window past 2^32 that would wrap onto a judged group",
+            "sick byte at the start of a group",
+            "sick byte inside a group",
+            "sick byte at the end of a group",
+            "sick byte of a group in two windows or more",
+            "sick byte of a group in two windows, the second starting lower",
+            "sick byte of a group in two windows, the second starting higher",
+            "sick byte in a window after one over higher bytes of the group",
+            "sick byte in a window after an empty one",
+            "sick byte in a window that starts before the group",
+            "sick byte of a group in a window past the memory's end",
+            "sick byte of a group in a window past 2^32",
+            "decode error of a group with a lower sick byte",
+            "window over the place of a decode error",
+            "fault of a step that names what the judgement of its bytes does",
+        ],
+    ),
     (
         "chains",
         &[

@@ -6,7 +6,9 @@ use std::alloc::{alloc_zeroed, dealloc, Layout};
 
 use crate::reference;
 use crate::states::fresh;
-use shared::interface::{belikumba_plan, belikumba_run, belikumba_step, Planned, Ran, Stepped};
+use shared::interface::{
+    belikumba_judge, belikumba_plan, belikumba_run, belikumba_step, Judged, Planned, Ran, Stepped,
+};
 use shared::words::{CHAIN_MODE, FETCH, PHASE};
 
 const TOP: usize = 1 << 32;
@@ -104,6 +106,12 @@ fn windows(vast: Vast) -> Result<(), String> {
     refused(6, (memory.as_mut_ptr(), memory.len()), (vast.bytes.cast(), TOP + 2))?;
     if memory != [0; 64] {
         return Err("a refused step or run changed the memory beside its windows".to_string());
+    }
+    // SAFETY: the header: it reads the lent numbers alone.
+    let given = unsafe { belikumba_judge(64, vast.bytes.cast(), TOP + 2, 0, 1) };
+    let expected = Judged { answer: 6, verdict: 0, place: 0, window: 0 };
+    if given != expected {
+        return Err(format!("judgement beside 2^32 + 2 numbers of windows: {given:?}"));
     }
     Ok(())
 }

@@ -61,6 +61,7 @@ pub const PLACES: &[&str] = &[
     "fixed and sick on both sides, the destination's byte the lower one",
     "fixed source gone round, its lowest sick byte not the first in the burst",
     "fixed source gone round, its lowest sick byte the first in the burst",
+    "sick byte of a fixed source word, with a lower one that a short burst misses",
 ];
 
 /// Places of states and memories that no trace has.
@@ -71,6 +72,7 @@ pub const PLACES_OF_STATES: &[&str] = &[
     "fixed source gone round, its lowest byte past the end not the first in the burst",
     "fixed destination gone round, its lowest sick byte not the first in the burst",
     "fixed destination gone round, its lowest byte past the end not the first in the burst",
+    "sick byte of a fixed destination word, with a lower one that a short piece misses",
 ];
 
 #[derive(Clone, Copy, PartialEq, Eq)]
@@ -278,6 +280,12 @@ fn see_fixed(
             ["sick later byte of a fixed source", "sick later byte of a fixed destination"]
         };
         counts.see(rows[named]);
+        let word = lowest(std::slice::from_ref(&side.whole), memory, windows, kind);
+        let row = [
+            "sick byte of a fixed source word, with a lower one that a short burst misses",
+            "sick byte of a fixed destination word, with a lower one that a short piece misses",
+        ][named];
+        counts.see_if(word < Some(at), row);
     } else if side.whole.start >= memory {
         counts.see(
             [

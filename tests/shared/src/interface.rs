@@ -12,6 +12,15 @@ pub struct Planned {
 
 #[repr(C)]
 #[derive(Clone, Copy, Debug, PartialEq, Eq)]
+pub struct Judged {
+    pub answer: u32,
+    pub verdict: u32,
+    pub place: u32,
+    pub window: u32,
+}
+
+#[repr(C)]
+#[derive(Clone, Copy, Debug, PartialEq, Eq)]
 pub struct Value {
     pub answer: u32,
     pub value: u32,
@@ -66,6 +75,13 @@ extern "C" {
         length: usize,
     ) -> Planned;
     pub fn belikumba_count(width: u32, beats: u32, start: u32, count: u32) -> Planned;
+    pub fn belikumba_judge(
+        memory_bytes: usize,
+        windows: *const u32,
+        window_numbers: usize,
+        start: u32,
+        bytes: u32,
+    ) -> Judged;
     pub fn belikumba_read(engine: *const u32, offset: u32) -> Value;
     pub fn belikumba_write(engine: *mut u32, offset: u32, value: u32) -> u32;
     pub fn belikumba_interrupt_line(engine: *const u32) -> Value;

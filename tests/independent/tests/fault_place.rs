@@ -628,7 +628,7 @@ fn judged_memories() {
 #[test]
 fn judged_numbers_of_windows() {
     // Fifteen empty ones, and one more over the group's third byte.
-    let mut numbers = vec![256, 0].repeat(15);
+    let mut numbers = [256, 0].repeat(15);
     numbers.extend([258, 1]);
     assert_eq!(judge(512, &numbers, 256, 16), sick(258, 15));
     assert_eq!(judge(512, &numbers[..30], 256, 16), okay());

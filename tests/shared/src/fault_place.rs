@@ -2,6 +2,8 @@
 // of a burst uses, by intervals and not byte by byte.
 // From RULES.md, "Memory that answers badly" and "Descriptor and steps".
 
+use std::iter::once;
+
 use independent::engine::Engine;
 use independent::memory::{Window, MOST_WINDOWS};
 
@@ -85,7 +87,7 @@ enum Kind {
 /// window.
 fn lowest(used: &[Bytes], memory: u64, windows: &[Window], kind: Kind) -> Option<u64> {
     let bad: Vec<Bytes> = match kind {
-        Kind::Decode => vec![memory..u64::MAX],
+        Kind::Decode => once(memory..u64::MAX).collect(),
         Kind::Slave => {
             let within = |window: &Window| sick(window).start..sick(window).end.min(memory);
             windows.iter().map(within).collect()
@@ -126,7 +128,7 @@ pub fn see_place(
         [None, None] => (Kind::Slave, sick),
         _ => (Kind::Decode, past),
     };
-    let named = usize::from(at_destination(engine, memory, windows));
+    let named = usize::from(found[0].is_none());
     let at = found[named].expect("a fault has a byte that fails");
     assert_eq!(at, u64::from(place), "the place that the table works out: {engine:?} {windows:?}");
     see_sides(engine, kind, found, counts);
@@ -142,8 +144,7 @@ pub fn see_place(
         see_byte(sides[named], at, counts);
         see_windows(sides[named], windows, memory, at, counts);
     }
-    let to = burst.destination.used.iter().map(|used| used.start).min();
-    let to = to.expect("a burst has bytes");
+    let to = start(&burst.destination);
     counts.see_if(at == to, "place that is the start of the burst's destination");
     counts.see_if(at < to, "place below the burst's destination");
     counts.see_if(at > to, "place above the start of the burst's destination");

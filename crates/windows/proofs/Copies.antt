@@ -13,7 +13,7 @@ use Rattle.kit.proofs.Choice.{cases}
 use Rattle.memory.specs.declared.window.Window.{Window}
 use Rattle.windows.specs.Flat.{flatOf}
 use Rattle.windows.specs.declared.table.Table.{Table}
-use Rattle.windows.specs.Table.{most, copiedOf, Has}
+use Rattle.windows.specs.Table.{most, copiedOf, inUse, Has}
 
 -- ---- how many windows
 
@@ -52,3 +52,7 @@ has-count t h = sym (length-take-le (t .count) (t .flat) (omega arith)) ∙ ap l
 -- of the first i windows
 pub has-windows : (t : Table) (ws : List Window) (i : ℕ) → i ≤ length ws → Has t (flatOf (take i ws)) → t .count ≡ 2 * i
 has-windows t ws i h has = has-count t has ∙ flat-length (take i ws) ∙ ap (λ (n : ℕ). 2 * n) (length-take-le i ws h)
+
+-- those in use
+pub has-in-use : (t : Table) {ns : List ℕ} → Has t ns → Has t (inUse t)
+has-in-use t h = record { whole = h .whole; fits = h .fits; holds = refl }

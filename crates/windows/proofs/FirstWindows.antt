@@ -1,4 +1,4 @@
--- A step and a run over all windows are those over the windows that a table takes: where some are left out, both are refused.
+-- A step, a run and a look-up over all windows are those over the windows that a table takes: where some are left out, they are refused.
 use mathlib.Core.Path.{_≡_, refl, sym, ap, ap₂, _∙_}
 use mathlib.Core.Bool.{Bool, true, false}
 use mathlib.Core.List.{List, [], _∷_}
@@ -12,12 +12,13 @@ use borrow.Author.Tests.{lt-ltb, ltb-true, ltb-false, ne-eqb}
 use Rattle.kit.specs.Choice.{when}
 use Rattle.kit.specs.Limits.{mostMemory, mostWindows}
 use Rattle.kit.specs.Settings.{legalOf}
-use Rattle.kit.proofs.Choice.{no, decide}
+use Rattle.kit.proofs.Choice.{yes, no, decide}
 use Rattle.memory.specs.declared.window.Window.{Window}
 use Rattle.memory.specs.Windows.{windowsOf}
 use Rattle.state.specs.declared.engine.Engine.{Engine}
 use Rattle.state.specs.State.{wellFormedOf}
 use Rattle.steps.specs.Step.{begun, advanceOf}
+use Rattle.places.specs.Locate.{refusedOf, judgedOf, locatedOf}
 use Rattle.runs.specs.Run.{refusalOf, walkFrom, stepAnswer, stepOf, runAnswer, runOf}
 use Rattle.windows.specs.Flat.{flatOf}
 use Rattle.windows.specs.Table.{most}
@@ -69,6 +70,16 @@ module _ (s : Engine) (m ns ks : List ℕ) (hn : mostWindows < length ns / 2) (h
       (sym (no (walkFrom steps 0 (begun s m) (windowsOf ns)) (ne-eqb (refusalOf s (length m) (length ns / 2)) 0 (refusal-some s (length m) hn)) refl)
       ∙ no (walkFrom steps 0 (begun s m) (windowsOf ks)) (ne-eqb (refusalOf s (length m) (length ks / 2)) 0 (refusal-some s (length m) hk)) refl)
 
+-- ---- a look-up
+
+locate-many : (size a n : ℕ) (ns ks : List ℕ) → mostWindows < length ns / 2 → mostWindows < length ks / 2 → locatedOf size ns a n ≡ locatedOf size ks a n
+unfolding locatedOf
+locate-many size a n ns ks hn hk =
+    ap (when (ltb mostMemory size) (refusedOf 2))
+    (sym (yes (judgedOf size (windowsOf ns) a n) (lt-ltb mostWindows (length ns / 2) hn) refl) ∙ yes (judgedOf size (windowsOf ks) a n) (lt-ltb mostWindows (length ks / 2) hk) refl)
+
+-- ---- all windows and the first
+
 module _ (ws : List Window) where
   few : ltb mostWindows (length ws) ≡ false → flatOf (take most ws) ≡ flatOf ws
   few e = ap flatOf (take-all most ws (omega (arith, ltb-false mostWindows (length ws) e)))
@@ -78,16 +89,19 @@ module _ (ws : List Window) where
       let long : mostWindows < length ws = ltb-true mostWindows (length ws) e in
       (omega (arith, flat-half (take most ws), length-take-le most ws (omega arith)), omega (arith, flat-half ws))
 
-  pub step-fewer : (s : Engine) (m : List ℕ) → stepOf s m (flatOf (take most ws)) ≡ stepOf s m (flatOf ws)
-  step-fewer s m = go (decide (ltb mostWindows (length ws)))
+  -- of whatever does not ask how many windows there are past the limit
+  fewer : {R : Type 0} (f : List ℕ → R) → ((ns ks : List ℕ) → mostWindows < length ns / 2 → mostWindows < length ks / 2 → f ns ≡ f ks) → f (flatOf (take most ws)) ≡ f (flatOf ws)
+  fewer f same = go (decide (ltb mostWindows (length ws)))
     where
-      go : (ltb mostWindows (length ws) ≡ true) ⊎ (ltb mostWindows (length ws) ≡ false) → stepOf s m (flatOf (take most ws)) ≡ stepOf s m (flatOf ws)
-      go (inl e) = step-many s m (flatOf (take most ws)) (flatOf ws) (many e .0) (many e .1)
-      go (inr e) = ap (stepOf s m) (few e)
+      go : (ltb mostWindows (length ws) ≡ true) ⊎ (ltb mostWindows (length ws) ≡ false) → f (flatOf (take most ws)) ≡ f (flatOf ws)
+      go (inl e) = same (flatOf (take most ws)) (flatOf ws) (many e .0) (many e .1)
+      go (inr e) = ap f (few e)
+
+  pub step-fewer : (s : Engine) (m : List ℕ) → stepOf s m (flatOf (take most ws)) ≡ stepOf s m (flatOf ws)
+  step-fewer s m = fewer (stepOf s m) (step-many s m)
 
   pub run-fewer : (steps : ℕ) (s : Engine) (m : List ℕ) → runOf steps s m (flatOf (take most ws)) ≡ runOf steps s m (flatOf ws)
-  run-fewer steps s m = go (decide (ltb mostWindows (length ws)))
-    where
-      go : (ltb mostWindows (length ws) ≡ true) ⊎ (ltb mostWindows (length ws) ≡ false) → runOf steps s m (flatOf (take most ws)) ≡ runOf steps s m (flatOf ws)
-      go (inl e) = run-many s m (flatOf (take most ws)) (flatOf ws) (many e .0) (many e .1) steps
-      go (inr e) = ap (runOf steps s m) (few e)
+  run-fewer steps s m = fewer (runOf steps s m) (λ ns ks hn hk. run-many s m ns ks hn hk steps)
+
+  pub locate-fewer : (size a n : ℕ) → locatedOf size (flatOf (take most ws)) a n ≡ locatedOf size (flatOf ws) a n
+  locate-fewer size a n = fewer (λ (ns : List ℕ). locatedOf size ns a n) (locate-many size a n)

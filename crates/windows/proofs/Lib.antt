@@ -4,3 +4,4 @@ pub mod WindowSlice
 pub mod Looks
 pub mod Tested
 pub mod AfterCall
+pub mod TableCall

@@ -1,4 +1,4 @@
--- Lent windows in a walk: their slice's type, a window's machine value, and the steps that look into the slice and take one window out of it and back.
+-- Lent windows in a walk: their slice's type and machine value, a window's, and the steps that look into the slice and take one window out of it and back.
 use Prim.Native.Nat.{ℕ, _<_}
 use mathlib.Core.List.{List, [], _∷_}
 use lib.ListN.{length, getD}
@@ -13,7 +13,8 @@ use types.Share.{arr-parts}
 use denote.Laws.{Is, shows}
 use denote.Memory.{cellAt, mem, shares, pointee}
 use denote.Index.{place, others, row, elem-out, elem-back, looks-slice}
-use denote.Slice.{sliceTy}
+use denote.Ref.{RefT}
+use denote.Slice.{sliceTy, sliceVal}
 use denote.Struct.Laws as LL
 use Rattle.memory.specs.declared.window.Window.{Window}
 use Rattle.memory.proofs.window.Window as P
@@ -21,6 +22,10 @@ use Rattle.memory.proofs.window.Window.Laws as P′
 
 abbrev pub slice : Lifetime → Ty
 slice ℓ = sliceTy (tyRef ℓ imm (pointee (P.the-row .written)))
+
+-- the machine value of the slice
+abbrev pub lent : RefT (List Window) → Val
+lent wx = sliceVal (wx .ptr) (length (wx .now))
 
 -- the machine value of a window
 abbrev pub lowered : Window → Val

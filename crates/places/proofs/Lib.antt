@@ -3,3 +3,4 @@ pub mod Groups
 pub mod Holders
 pub mod Lows
 pub mod Words
+pub mod Worked

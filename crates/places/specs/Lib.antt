@@ -1,3 +1,4 @@
 pub mod Places
 pub mod Locate
 pub mod Claims
+pub mod Worked

@@ -1,6 +1,5 @@
 -- The place that a fault tells, and that nothing else of a step goes by it.
 use mathlib.Core.Path.{_≡_, refl, sym, ap, subst, _∙_}
-use mathlib.Core.Bool.{true, false}
 use mathlib.Core.Logic.{inl, inr}
 use mathlib.Core.List.{List}
 use Prim.Native.Nat.{ℕ}
@@ -22,10 +21,9 @@ use Rattle.state.specs.declared.engine.Phase.{Phase}
 use Rattle.state.specs.declared.engine.Phase.the-variants.{Idle, Fetch, Move, Update}
 use Rattle.state.specs.declared.descriptor.Descriptor.{Descriptor}
 use Rattle.state.specs.Descriptor.{descriptorBytes}
-use Rattle.steps.specs.declared.event.Event.{Event}
 use Rattle.steps.specs.declared.event.Event.the-variants.{Fault, Halt}
 use Rattle.steps.specs.declared.event.Advanced.{Advanced}
-use Rattle.steps.specs.Step.{AfterAdvance, readPlace, writePlace, nextBytes, burstAnswer, faultAt, fetchBy, acceptOf, moveBurstBy, statusPlace, updateBy, advanceBy, advanceOf}
+use Rattle.steps.specs.Step.{readPlace, writePlace, nextBytes, burstAnswer, faultAt, fetchBy, acceptOf, moveBurstBy, statusPlace, updateBy, advanceBy, advanceOf}
 use Rattle.claims.specs.Faults.{moveBit, descriptorBit, FailsAt, Faulted, FaultPlaces, formerMoveBy, formerBy, placed, Former, OnlyPlaces}
 
 -- a burst fails at one place only

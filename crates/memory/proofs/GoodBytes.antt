@@ -3,21 +3,21 @@ use mathlib.Core.Path.{_≡_, refl, sym, ap, _∙_}
 use mathlib.Core.Bool.{Bool, true, false}
 use mathlib.Core.List.{List, [], _∷_}
 use mathlib.Core.Logic.{_⊎_, inl, inr}
-use Prim.Native.Nat.{ℕ, zero, suc, _+_, _-_, _≤_, _<_}
+use Prim.Native.Nat.{ℕ, _+_, _-_, _≤_, _<_}
 use native.Mathlib.Omega.{arith}
 use lib.ListN.{length, drop, length-drop}
 use lib.Dec.{ltb}
-use borrow.Author.Tests.{lt-ltb, le-ltb, le-leb, ltb-true, ltb-false}
-use Rattle.kit.specs.Choice.{both, either}
+use borrow.Author.Tests.{lt-ltb, le-leb, ltb-true, ltb-false}
+use Rattle.kit.specs.Choice.{either}
 use Rattle.kit.proofs.Choice.{yes, no, decide, never, both-join, either-right}
 use Rattle.memory.specs.declared.window.Window.{Window}
 use Rattle.memory.specs.declared.verdict.Verdict.the-variants.{Okay}
 use Rattle.memory.specs.Windows.{windowsOf, inside, sick}
 use Rattle.memory.specs.Interval.{touchesOf, hit}
-use Rattle.memory.specs.Verdict.{worse, groupOf, pairOf}
+use Rattle.memory.specs.Verdict.{groupOf}
 use Rattle.memory.specs.Good.{nearerEnd, goodEnd, goodBytes}
 use Rattle.memory.proofs.Touch.{Touch, touch, touch-test}
-use Rattle.memory.proofs.Groups.{group-none, group-okay}
+use Rattle.memory.proofs.Groups.{group-okay}
 use Rattle.memory.proofs.Flat.{windowAt, windows-cons, too-few}
 
 -- ---- one window

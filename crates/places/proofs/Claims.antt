@@ -1,13 +1,11 @@
 -- The claims of specs/Claims.antt hold.
 use mathlib.Core.Path.{_≡_, refl, sym, ap, subst, _∙_}
-use mathlib.Core.Bool.{true, false}
 use mathlib.Core.Logic.{_⊎_, inl, inr, ⊎-elim}
 use mathlib.Core.List.{List}
-use Prim.Native.Nat.{ℕ, zero, suc, _+_, _<_}
+use Prim.Native.Nat.{ℕ, zero, suc}
 use native.Mathlib.Omega.{arith}
 use native.Mathlib.Nat.{add-zero}
 use Rattle.kit.proofs.Numbers.{number-tells}
-use Rattle.kit.proofs.Choice.{decide}
 use Rattle.memory.specs.declared.window.Window.{Window}
 use Rattle.memory.specs.declared.verdict.Verdict.{Verdict}
 use Rattle.memory.specs.declared.verdict.Verdict.the-variants.{Okay, Slave, Decode}
@@ -17,10 +15,9 @@ use Rattle.sides.proofs.Places.{over}
 use Rattle.sides.proofs.Answers.{answer-run}
 use Rattle.places.specs.declared.found.Found.{Found}
 use Rattle.places.specs.declared.found.Found.the-variants.{At, Nothing}
-use Rattle.places.specs.declared.locate.Located.{Located}
-use Rattle.places.specs.Places.{lowestOf, lowestIn, faultOf, firstFound, addressOf}
-use Rattle.places.specs.Locate.{Told, refusedOf, locatedSeen, toldBy, judgedOf}
-use Rattle.places.specs.Claims.{Used, Without, Lowest, Fails, Holder, Claims}
+use Rattle.places.specs.Places.{lowestOf, lowestIn, firstFound, addressOf}
+use Rattle.places.specs.Locate.{Told, toldBy, judgedOf}
+use Rattle.places.specs.Claims.{Without, Lowest, Fails, Holder, Claims}
 use Rattle.places.proofs.Lows.{Finds, at, none, finds, only-lowest, okay-nothing}
 use Rattle.places.proofs.Groups.{slave-bad, decode-bad, slave-sick}
 use Rattle.places.proofs.Holders.{holder}

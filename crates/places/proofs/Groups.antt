@@ -1,26 +1,23 @@
 -- A group of bytes by its ends: the lowest byte past the memory's end, and the lowest that a window holds.
-use mathlib.Core.Path.{_≡_, refl, sym, ap, _∙_}
-use mathlib.Core.Bool.{Bool, true, false}
+use mathlib.Core.Path.{_≡_, refl, sym, _∙_}
+use mathlib.Core.Bool.{true}
 use mathlib.Core.Logic.{_⊎_, inl, inr, ⊎-elim}
 use mathlib.Core.List.{List}
-use Prim.Native.Nat.{ℕ, zero, suc, _+_, _-_, _≤_, _<_}
+use Prim.Native.Nat.{ℕ, _+_, _-_, _≤_, _<_}
 use native.Mathlib.Omega.{arith}
 use lib.Dec.{leb, ltb}
 use borrow.Author.Tests.{le-leb, lt-leb, leb-true, leb-false, ltb-true, ltb-false}
 use Rattle.kit.proofs.Choice.{yes, no, decide}
 use Rattle.memory.specs.declared.window.Window.{Window}
-use Rattle.memory.specs.declared.verdict.Verdict.{Verdict}
 use Rattle.memory.specs.declared.verdict.Verdict.the-variants.{Okay, Slave, Decode}
 use Rattle.memory.specs.Windows.{sick}
 use Rattle.memory.specs.Verdict.{byteOf, groupOf}
 use Rattle.memory.specs.Good.{goodBytes}
 use Rattle.memory.proofs.Verdicts.{worse-right-okay}
 use Rattle.memory.proofs.GoodBytes.{good-okay, good-stops}
-use Rattle.places.specs.declared.found.Found.{Found}
 use Rattle.places.specs.declared.found.Found.the-variants.{At, Nothing}
 use Rattle.places.specs.Places.{lowestIn}
-use Rattle.places.specs.Claims.{Lowest, Without}
-use Rattle.places.proofs.Lows.{Finds, at, none, lowest-at}
+use Rattle.places.proofs.Lows.{at, none, lowest-at}
 
 pub decode-bad : Decode ≡ Okay → ⊥
 decode-bad e = let z : _≡_ {A = ℕ} 0 1 = cc in omega arith

@@ -1,13 +1,11 @@
 -- Laws of `holderOf`: the window that it numbers, and the windows of a flat slice as a loop goes over them by two.
 use mathlib.Core.Path.{_≡_, refl, sym, ap, _∙_}
-use mathlib.Core.Bool.{Bool, true, false}
-use mathlib.Core.Logic.{⊎-elim}
+use mathlib.Core.Bool.{true, false}
 use mathlib.Core.List.{List, [], _∷_}
 use Prim.Native.Nat.{ℕ, suc, _+_, _≤_, _<_}
 use native.Mathlib.Omega.{arith}
 use lib.ListN.{length, drop, length-drop}
-use Rattle.kit.specs.Choice.{either}
-use Rattle.kit.proofs.Choice.{yes, no, cases, decide, never}
+use Rattle.kit.proofs.Choice.{yes, no, cases, never}
 use Rattle.memory.specs.declared.window.Window.{Window}
 use Rattle.memory.specs.Windows.{windowsOf, inside, sick}
 use Rattle.memory.proofs.Flat.{windowAt, windows-cons, too-few}

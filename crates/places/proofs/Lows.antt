@@ -14,7 +14,7 @@ use Rattle.memory.specs.Verdict.{byteOf}
 use Rattle.sides.proofs.Places.{Along, over, along-head, along-tail}
 use Rattle.places.specs.declared.found.Found.{Found}
 use Rattle.places.specs.declared.found.Found.the-variants.{At, Nothing}
-use Rattle.places.specs.Places.{sameError, givenBy, lower, lowestOf, firstFound}
+use Rattle.places.specs.Places.{sameError, givenBy, lower, lowestOf}
 use Rattle.places.specs.Claims.{Used, Without, Lowest}
 
 pub same-true : (u v : Verdict) → sameError u v ≡ true → u ≡ v

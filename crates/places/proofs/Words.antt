@@ -1,6 +1,6 @@
 -- A side of a burst: one group if it increments; if it is fixed, the part of its word from the front on, and the part up to its end.
-use mathlib.Core.Path.{_≡_, refl, sym, ap, subst, _∙_}
-use mathlib.Core.Bool.{Bool, true, false}
+use mathlib.Core.Path.{_≡_, sym, ap, subst, _∙_}
+use mathlib.Core.Bool.{true, false}
 use mathlib.Core.Logic.{_⊎_, inl, inr, ⊎-elim}
 use mathlib.Core.List.{List}
 use Prim.Native.Nat.{ℕ, _+_, _-_, _%_, _≤_, _<_, min}
@@ -17,9 +17,8 @@ use Rattle.sides.specs.Sides.{placeOf}
 use Rattle.sides.proofs.Places.{Run, plain-run}
 use Rattle.sides.proofs.Words.{upper, lower}
 use Rattle.places.specs.declared.found.Found.{Found}
-use Rattle.places.specs.declared.found.Found.the-variants.{At, Nothing}
 use Rattle.places.specs.Places.{lowestOf, lowestIn, firstFound}
-use Rattle.places.specs.Claims.{Used, Lowest, Without}
+use Rattle.places.specs.Claims.{Used}
 use Rattle.places.proofs.Groups.{slave-bad, decode-bad}
 use Rattle.places.proofs.Lows.{Finds, at, none, finds, lowest-at, lowest-along, okay-nothing}
 

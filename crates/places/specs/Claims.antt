@@ -10,7 +10,6 @@ use Rattle.memory.specs.declared.verdict.Verdict.the-variants.{Okay, Slave, Dec
 use Rattle.memory.specs.Windows.{inside}
 use Rattle.memory.specs.Verdict.{byteOf, groupOf}
 use Rattle.sides.specs.Sides.{sideAnswer, sidesAnswer}
-use Rattle.places.specs.declared.found.Found.{Found}
 use Rattle.places.specs.declared.found.Found.the-variants.{At, Nothing}
 use Rattle.places.specs.declared.locate.Located.{Located}
 use Rattle.places.specs.Places.{lowestOf, faultOf, addressOf}

@@ -11,7 +11,7 @@ use memory::window::touches;
 ghost use mathlib.Core.Path.{_≡_};
 ghost use Prim.Native.Nat.{_/_, _≤_};
 ghost use lib.ListN.{length};
-ghost use Rattle.kit.specs.Limits.{mostMemory, mostWindows};
+ghost use Rattle.kit.specs.Limits.{mostWindows};
 ghost use Rattle.memory.specs.Windows.{windowsOf};
 ghost use Rattle.places.specs.Places.{holderOf, windowBy};
 ghost use Rattle.places.specs.Locate.{verdictNumber, refusedBy, locatedOf, locatedSeen};

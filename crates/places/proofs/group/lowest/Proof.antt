@@ -1,5 +1,5 @@
 -- The lowest byte that gives a verdict meets its contract, by the verdict.
-use mathlib.Core.Path.{_≡_, sym, ap, _∙_}
+use mathlib.Core.Path.{sym, ap, _∙_}
 use denote.Ref.{now}
 use borrow.Author.Needs.{needs}
 use Rattle.memory.specs.declared.verdict.Verdict.{Verdict}

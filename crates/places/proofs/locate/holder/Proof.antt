@@ -1,11 +1,11 @@
 -- The first window that holds a byte meets its contract. Invariant: the windows passed, and the first of those left, number it.
-use mathlib.Core.Path.{_≡_, refl, sym, ap, _∙_}
-use Prim.Native.Nat.{ℕ, suc, _+_, _-_, _*_, _≤_}
+use mathlib.Core.Path.{_≡_, sym, ap, _∙_}
+use Prim.Native.Nat.{suc, _+_, _-_, _*_, _≤_}
 use native.Mathlib.Omega.{arith}
 use native.Mathlib.Numerals.{add-one}
 use borrow.Author.Needs.{needs}
 use lib.ListN.{length, drop}
-use Rattle.memory.specs.Windows.{windowsOf, inside}
+use Rattle.memory.specs.Windows.{windowsOf}
 use Rattle.memory.specs.Interval.{touchesOf}
 use Rattle.memory.proofs.Flat.{windowAt}
 use Rattle.memory.proofs.Touch.{touches-one}

@@ -1,4 +1,4 @@
-use mathlib.Core.Path.{_≡_, refl, sym, ap, ap₂, _∙_}
+use mathlib.Core.Path.{ap, _∙_}
 use Prim.Native.Nat.{ℕ}
 use denote.Ref.{now}
 use borrow.Author.Needs.{needs}
@@ -6,7 +6,7 @@ use borrow.Author.Tests.{lt-ltb, le-ltb}
 use Rattle.kit.proofs.Choice.{yes, no}
 use Rattle.memory.specs.declared.verdict.Verdict.{Verdict}
 use Rattle.memory.specs.Windows.{windowsOf}
-use Rattle.places.specs.Places.{lowestIn, addressOf, windowBy}
+use Rattle.places.specs.Places.{lowestIn, addressOf}
 use Rattle.places.specs.Locate.{Told, toldBy, locatedSeen, locatedOf}
 use Rattle.places.proofs.locate.locate.Statement.{statement}
 use Rattle.places.proofs.locate.locate.Tie as tie

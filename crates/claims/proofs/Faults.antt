@@ -24,7 +24,7 @@ use Rattle.state.specs.Descriptor.{descriptorBytes}
 use Rattle.steps.specs.declared.event.Event.the-variants.{Fault, Halt}
 use Rattle.steps.specs.declared.event.Advanced.{Advanced}
 use Rattle.steps.specs.Step.{readPlace, writePlace, nextBytes, burstAnswer, faultAt, fetchBy, acceptOf, moveBurstBy, statusPlace, updateBy, advanceBy, advanceOf}
-use Rattle.claims.specs.Faults.{moveBit, descriptorBit, FailsAt, Faulted, FaultPlaces, formerMoveBy, formerBy, placed, Former, OnlyPlaces}
+use Rattle.claims.specs.Faults.{moveBit, descriptorBit, FailsAt, Faulted, Tells, Halted, fetching, updating, FaultPlaces, formerMoveBy, formerBy, placed, SameButPlace, OnlyPlaces}
 
 -- a burst fails at one place only
 fails-once : (size : ℕ) (ws : List Window) (v : Verdict) (reads writes : ℕ → ℕ) (k n a b : ℕ)
@@ -106,15 +106,15 @@ module _ (s : Engine) (m : List ℕ) (windows : List Window) where
   move-faults t SlaveError bad = refl
   move-faults t DecodeError bad = refl
 
-  faults : (t : Transfer) (v : Verdict) → s .phase ≡ Move t → answer t ≡ v → (v ≡ Okay → ⊥) → (a : ℕ) → FailsAt s t m windows v a
-      → advanceOf s m windows .event ≡ Fault a (moveBit v)
+  faults : (t : Transfer) (v : Verdict) → s .phase ≡ Move t → answer t ≡ v → (v ≡ Okay → ⊥) → Tells s t m windows v
   unfolding advanceOf
-  faults t v e f bad a h =
-      ap (λ (p : Phase). advanceBy s m windows p .event) e
-      ∙ ap (λ (u : Verdict). moveBurstBy s t m windows (nextBytes s t) u .event) f
-      ∙ move-faults t v bad
-      ∙ ap (λ (x : ℕ). Fault x (moveBit v))
-      (fails-once (length m) windows v (readPlace (s .settings) (s .control .keyholeread) t) (writePlace (s .settings) (s .control .keyholewrite) t) (t .moved) (nextBytes s t) _ a (fails t v f bad) h)
+  faults t v e f bad = record {
+    place = faultAt s t (length m) windows (nextBytes s t) v;
+    there = fails t v f bad;
+    event = ap (λ (p : Phase). advanceBy s m windows p .event) e
+        ∙ ap (λ (u : Verdict). moveBurstBy s t m windows (nextBytes s t) u .event) f
+        ∙ move-faults t v bad;
+  }
 
   fetched-halts : (v : Verdict) → (v ≡ Okay → ⊥) → fetchBy s m v .event ≡ Halt (s .pointers .current) (descriptorBit v)
   fetched-halts Okay bad = absurd (bad refl)
@@ -136,9 +136,58 @@ module _ (s : Engine) (m : List ℕ) (windows : List Window) where
   unfolding advanceOf
   update-halts o v e f bad = ap (λ (p : Phase). advanceBy s m windows p .event) e ∙ ap (λ (u : Verdict). updateBy s o m u .event) f ∙ updated-halts o v bad
 
+  -- ---- a halt by an error was a descriptor's
+
+  slave-bit : (v : Verdict) → 9 ≡ descriptorBit v → SlaveError ≡ v
+  slave-bit Okay e = absurd (omega arith)
+  slave-bit SlaveError e = refl
+  slave-bit DecodeError e = absurd (omega arith)
+
+  decode-bit : (v : Verdict) → 10 ≡ descriptorBit v → DecodeError ≡ v
+  decode-bit Okay e = absurd (omega arith)
+  decode-bit SlaveError e = absurd (omega arith)
+  decode-bit DecodeError e = refl
+
+  -- a complete descriptor halts by bit 8
+  stale-bit : (v : Verdict) → 8 ≡ descriptorBit v → ⊥
+  stale-bit Okay e = omega arith
+  stale-bit SlaveError e = omega arith
+  stale-bit DecodeError e = omega arith
+
+  accepted-halts-not : (d : Descriptor) (v : Verdict) (at : ℕ) → acceptOf s d .event ≡ Halt at (descriptorBit v) → ⊥
+  unfolding acceptOf
+  accepted-halts-not d v at =
+      cases (λ (r : Advanced). r .event ≡ Halt at (descriptorBit v) → ⊥) (d .stale)
+      (λ _ g. stale-bit v (cc)) (λ _ g. let z : _≡_ {A = ℕ} 0 1 = cc in omega arith)
+
+  fetch-halted : (u v : Verdict) (at : ℕ) → (v ≡ Okay → ⊥) → fetchBy s m u .event ≡ Halt at (descriptorBit v) → u ≡ v
+  fetch-halted Okay v at bad g = absurd (accepted-halts-not _ v at g)
+  fetch-halted SlaveError v at bad g = slave-bit v (cc)
+  fetch-halted DecodeError v at bad g = decode-bit v (cc)
+
+  move-halted : (t : Transfer) (u v : Verdict) (at : ℕ) → moveBurstBy s t m windows (nextBytes s t) u .event ≡ Halt at (descriptorBit v) → ⊥
+  move-halted t Okay v at g = let z : _≡_ {A = ℕ} 0 1 = cc in omega arith
+  move-halted t SlaveError v at g = let z : _≡_ {A = ℕ} 0 1 = cc in omega arith
+  move-halted t DecodeError v at g = let z : _≡_ {A = ℕ} 0 1 = cc in omega arith
+
+  update-halted : (o : Outcome) (u v : Verdict) (at : ℕ) → updateBy s o m u .event ≡ Halt at (descriptorBit v) → u ≡ v
+  update-halted o Okay v at g = absurd (let z : _≡_ {A = ℕ} 0 1 = cc in omega arith)
+  update-halted o SlaveError v at g = slave-bit v (cc)
+  update-halted o DecodeError v at g = decode-bit v (cc)
+
+  halted-by : (p : Phase) → s .phase ≡ p → (v : Verdict) (at : ℕ) → (v ≡ Okay → ⊥) → advanceBy s m windows p .event ≡ Halt at (descriptorBit v) → Halted s m windows v
+  halted-by Idle e v at bad g = absurd (let z : _≡_ {A = ℕ} 0 1 = cc in omega arith)
+  halted-by Fetch e v at bad g = fetching e (fetch-halted (groupOf (length m) windows (s .pointers .current) descriptorBytes) v at bad g)
+  halted-by (Move t) e v at bad g = absurd (move-halted t (answer t) v at g)
+  halted-by (Update o) e v at bad g = updating o e (update-halted o (groupOf (length m) windows (statusPlace s) 4) v at g)
+
+  halted : (v : Verdict) (at : ℕ) → (v ≡ Okay → ⊥) → advanceOf s m windows .event ≡ Halt at (descriptorBit v) → Halted s m windows v
+  unfolding advanceOf
+  halted v at bad g = halted-by (s .phase) refl v at bad g
+
   -- ---- nothing else goes by it
 
-  pub record Formerly (p : Phase) : Type 0 where
+  pub record SameByPhase (p : Phase) : Type 0 where
     pub engine : advanceBy s m windows p .engine ≡ formerBy s m windows p .engine
     pub memory : advanceBy s m windows p .memory ≡ formerBy s m windows p .memory
     pub event : (a : ℕ) → placed a (advanceBy s m windows p .event) ≡ placed a (formerBy s m windows p .event)
@@ -153,22 +202,25 @@ module _ (s : Engine) (m : List ℕ) (windows : List Window) where
   formerly-moves t SlaveError = record { engine = refl; memory = refl; event = λ a. refl }
   formerly-moves t DecodeError = record { engine = refl; memory = refl; event = λ a. refl }
 
-  formerly : (p : Phase) → Formerly p
+  formerly : (p : Phase) → SameByPhase p
   formerly Idle = record { engine = refl; memory = refl; event = λ a. refl }
   formerly Fetch = record { engine = refl; memory = refl; event = λ a. refl }
   formerly (Move t) = let h = formerly-moves t (answer t) in record { engine = h .engine; memory = h .memory; event = h .event }
   formerly (Update o) = record { engine = refl; memory = refl; event = λ a. refl }
 
-  former : Former s m windows
+  former : SameButPlace s m windows
   unfolding advanceOf
   former = let h = formerly (s .phase) in record { engine = h .engine; memory = h .memory; event = h .event }
 
 pub fault-places : FaultPlaces
 fault-places = record {
   told = told;
-  faults = λ s t m windows v e f bad a h. faults s m windows t v e f bad a h;
+  faults = λ s t m windows v e f bad. faults s m windows t v e f bad;
+  once = λ s t m windows v a b g h.
+      fails-once (length m) windows v (readPlace (s .settings) (s .control .keyholeread) t) (writePlace (s .settings) (s .control .keyholewrite) t) (t .moved) (nextBytes s t) a b g h;
   fetch-halts = fetch-halts;
   update-halts = λ s o m windows v e f bad. update-halts s m windows o v e f bad;
+  halted = halted;
 }
 
 pub only-places : OnlyPlaces

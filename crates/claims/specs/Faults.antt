@@ -6,7 +6,7 @@ use lib.ListN.{length}
 use Rattle.memory.specs.declared.window.Window.{Window}
 use Rattle.memory.specs.declared.verdict.Verdict.{Verdict}
 use Rattle.memory.specs.declared.verdict.Verdict.the-variants.{Okay, Slave as SlaveError, Decode as DecodeError}
-use Rattle.places.specs.Locate.{judgedOf}
+use Rattle.places.specs.Locate.{locationOf}
 use Rattle.places.specs.Claims.{Fails}
 use Rattle.state.specs.declared.engine.Engine.{Engine}
 use Rattle.state.specs.declared.engine.Transfer.{Transfer}
@@ -46,6 +46,17 @@ pub record Faulted (s : Engine) (m : List ℕ) (windows : List Window) (place bi
   pub told : bit ≡ moveBit verdict
   pub there : FailsAt s transfer m windows verdict place
 
+-- the fault of a move whose bytes answer with the error v
+pub record Tells (s : Engine) (t : Transfer) (m : List ℕ) (windows : List Window) (v : Verdict) : Type 0 where
+  pub place : ℕ
+  pub there : FailsAt s t m windows v place
+  pub event : advanceOf s m windows .event ≡ Fault place (moveBit v)
+
+-- a halt by the error v, by what it was: a fetch, judged by its descriptor, or an update, judged by the status word
+pub data Halted (s : Engine) (m : List ℕ) (windows : List Window) (v : Verdict) : Type 0 where
+  fetching : s .phase ≡ Fetch → locationOf (length m) windows (s .pointers .current) descriptorBytes .verdict ≡ v → Halted s m windows v
+  updating : (o : Outcome) → s .phase ≡ Update o → locationOf (length m) windows (statusPlace s) 4 .verdict ≡ v → Halted s m windows v
+
 -- whatever the state, the memory and the windows, in either mode
 pub record FaultPlaces : Type 0 where
   -- a fault tells where the move failed
@@ -53,18 +64,22 @@ pub record FaultPlaces : Type 0 where
       → Faulted s m windows place bit
   -- a move whose bytes answer with an error is a fault
   pub faults : (s : Engine) (t : Transfer) (m : List ℕ) (windows : List Window) (v : Verdict) → s .phase ≡ Move t
-      → burstAnswer s t (length m) windows (nextBytes s t) ≡ v → (v ≡ Okay → ⊥)
-      → (a : ℕ) → FailsAt s t m windows v a → advanceOf s m windows .event ≡ Fault a (moveBit v)
-  -- a descriptor that cannot be fetched, or whose status word cannot be written, halts, and tells no place. `judgedOf`, over the
-  -- bytes that are named here, has the place and the window
+      → burstAnswer s t (length m) windows (nextBytes s t) ≡ v → (v ≡ Okay → ⊥) → Tells s t m windows v
+  -- a burst fails at one place only
+  pub once : (s : Engine) (t : Transfer) (m : List ℕ) (windows : List Window) (v : Verdict) (a b : ℕ)
+      → FailsAt s t m windows v a → FailsAt s t m windows v b → a ≡ b
+  -- a descriptor that cannot be fetched, or whose status word cannot be written, halts
   pub fetch-halts : (s : Engine) (m : List ℕ) (windows : List Window) (v : Verdict) → s .phase ≡ Fetch
-      → judgedOf (length m) windows (s .pointers .current) descriptorBytes .verdict ≡ v → (v ≡ Okay → ⊥)
+      → locationOf (length m) windows (s .pointers .current) descriptorBytes .verdict ≡ v → (v ≡ Okay → ⊥)
       → advanceOf s m windows .event ≡ Halt (s .pointers .current) (descriptorBit v)
   pub update-halts : (s : Engine) (o : Outcome) (m : List ℕ) (windows : List Window) (v : Verdict) → s .phase ≡ Update o
-      → judgedOf (length m) windows (statusPlace s) 4 .verdict ≡ v → (v ≡ Okay → ⊥)
+      → locationOf (length m) windows (statusPlace s) 4 .verdict ≡ v → (v ≡ Okay → ⊥)
       → advanceOf s m windows .event ≡ Halt (s .pointers .current) (descriptorBit v)
+  -- and a halt with one of these bits was such a descriptor's. So `locationOf`, over the same bytes, has its place and its window
+  pub halted : (s : Engine) (m : List ℕ) (windows : List Window) (v : Verdict) (current : ℕ) → (v ≡ Okay → ⊥)
+      → advanceOf s m windows .event ≡ Halt current (descriptorBit v) → Halted s m windows v
 
--- ---- as it was before: a fault told where the burst's destination bytes start
+-- ---- as it was before: a fault told where the burst's destination bytes start. What a move stands on has not changed
 
 -- a move by what its bytes answer
 abbrev pub formerMoveBy : Engine → Transfer → List ℕ → ℕ → Verdict → AfterAdvance
@@ -89,10 +104,10 @@ placed a (Updated current word) = Updated current word
 placed a (Halt current bit) = Halt current bit
 
 -- the state and the memory after a step are as they were, and so is its event but for the place of a fault
-pub record Former (s : Engine) (m : List ℕ) (windows : List Window) : Type 0 where
+pub record SameButPlace (s : Engine) (m : List ℕ) (windows : List Window) : Type 0 where
   pub engine : advanceOf s m windows .engine ≡ formerBy s m windows (s .phase) .engine
   pub memory : advanceOf s m windows .memory ≡ formerBy s m windows (s .phase) .memory
   pub event : (a : ℕ) → placed a (advanceOf s m windows .event) ≡ placed a (formerBy s m windows (s .phase) .event)
 
 abbrev pub OnlyPlaces : Type 0
-OnlyPlaces = (s : Engine) (m : List ℕ) (windows : List Window) → Former s m windows
+OnlyPlaces = (s : Engine) (m : List ℕ) (windows : List Window) → SameButPlace s m windows

@@ -10,7 +10,6 @@ unique = record {
   count = λ x r q e f.
       let same = e ∙ sym f in
       λ i. record { answer = same i .answer; bursts = same i .bursts };
-  judge = λ x r q e f. e ∙ sym f;
   value = λ x r q e f.
       let same = e ∙ sym f in
       λ i. record { answer = same i .answer; value = same i .value };

@@ -2,5 +2,6 @@
 pub mod answer;
 pub mod limits;
 pub mod logic;
+pub mod order;
 pub mod settings;
 pub mod word;

@@ -16,7 +16,7 @@ use Rattle.sides.proofs.Answers.{answer-run}
 use Rattle.places.specs.declared.found.Found.{Found}
 use Rattle.places.specs.declared.found.Found.the-variants.{At, Nothing}
 use Rattle.places.specs.Places.{lowestOf, lowestIn, firstFound, addressOf}
-use Rattle.places.specs.Locate.{Told, toldBy, judgedOf}
+use Rattle.places.specs.Locate.{Location, locationBy, locationOf}
 use Rattle.places.specs.Claims.{Without, Lowest, Fails, Holder, Claims}
 use Rattle.places.proofs.Lows.{Finds, at, none, finds, only-lowest, okay-nothing}
 use Rattle.places.proofs.Groups.{slave-bad, decode-bad, slave-sick}
@@ -69,22 +69,22 @@ module _ (size : ℕ) (ws : List Window) where
   found Decode place k n a e = found-lowest size ws Decode decode-bad place k n a (finds size ws Decode place k n decode-bad) e
 
   -- what is told of a group, once its answer is known
-  told : (a n : ℕ) {v : Verdict} → groupOf size ws a n ≡ v → judgedOf size ws a n ≡ toldBy ws v (addressOf (lowestIn size ws v a n))
-  told a n e = ap (λ (v : Verdict). toldBy ws v (addressOf (lowestIn size ws v a n))) e
+  told : (a n : ℕ) {v : Verdict} → groupOf size ws a n ≡ v → locationOf size ws a n ≡ locationBy ws v (addressOf (lowestIn size ws v a n))
+  told a n e = ap (λ (v : Verdict). locationBy ws v (addressOf (lowestIn size ws v a n))) e
 
-  Slaves : ℕ → ℕ → Told → Type 0
+  Slaves : ℕ → ℕ → Location → Type 0
   Slaves a n r = (r .verdict ≡ Slave) × Lowest size ws Slave (λ x. x) a n (r .place) × Holder ws (r .place) (r .window)
 
-  Decodes : ℕ → ℕ → Told → Type 0
+  Decodes : ℕ → ℕ → Location → Type 0
   Decodes a n r = (r .verdict ≡ Decode) × Lowest size ws Decode (λ x. x) a n (r .place) × (r .window ≡ 0)
 
-  slaves : (a n : ℕ) → groupOf size ws a n ≡ Slave → Slaves a n (judgedOf size ws a n)
+  slaves : (a n : ℕ) → groupOf size ws a n ≡ Slave → Slaves a n (locationOf size ws a n)
   unfolding Slaves
   slaves a n e =
       let low = group size ws Slave slave-bad a n e in
       subst (Slaves a n) (sym (told a n e)) (refl, low, holder ws (addressOf (lowestIn size ws Slave a n)) (slave-sick size ws _ (low .gives)))
 
-  decodes : (a n : ℕ) → groupOf size ws a n ≡ Decode → Decodes a n (judgedOf size ws a n)
+  decodes : (a n : ℕ) → groupOf size ws a n ≡ Decode → Decodes a n (locationOf size ws a n)
   unfolding Decodes
   decodes a n e = subst (Decodes a n) (sym (told a n e)) (refl, group size ws Decode decode-bad a n e, refl)
 
@@ -97,11 +97,11 @@ claims = record {
   only = only-lowest;
   error = λ size ws v place k n bad e. side size ws v bad place k n e (finds size ws v place k n bad);
   fault = λ size ws v reads writes k n bad e. both-sides size ws v bad reads writes k n e (finds size ws v reads k n bad) (finds size ws v writes k n bad);
-  group-okay = λ size ws a n e. told size ws a n e ∙ ap (λ (p : Found). toldBy ws Okay (addressOf p)) (okay-nothing size ws (λ x. x) a n);
+  group-okay = λ size ws a n e. told size ws a n e ∙ ap (λ (p : Found). locationBy ws Okay (addressOf p)) (okay-nothing size ws (λ x. x) a n);
   group-slave = slaves;
   group-decode = decodes;
   unique = λ x r q e f.
       let same = e ∙ sym f in
-      let answers = number-tells (ap (λ (y : Told). y .answer) same) in
+      let answers = number-tells (ap (λ (y : Location). y .answer) same) in
       λ i. record { answer = answers i; verdict = same i .verdict; place = same i .place; window = same i .window };
 }

@@ -13,7 +13,7 @@ use Rattle.sides.specs.Sides.{sideAnswer, sidesAnswer}
 use Rattle.places.specs.declared.found.Found.the-variants.{At, Nothing}
 use Rattle.places.specs.declared.locate.Located.{Located}
 use Rattle.places.specs.Places.{lowestOf, faultOf, addressOf}
-use Rattle.places.specs.Locate.{Told, refusedOf, locatedSeen, judgedOf}
+use Rattle.places.specs.Locate.{Location, toldAlone, locatedSeen, locationOf}
 
 -- a is where one of the n bytes from byte k on lies
 pub record Used (place : ℕ → ℕ) (k n a : ℕ) : Type 0 where
@@ -62,12 +62,12 @@ pub record Claims : Type 0 where
       → Fails size windows v reads writes k n (addressOf (faultOf size windows v reads writes k n))
   -- a group: its bytes are those from a on; OKAY has no place and no window, a decode error no window
   pub group-okay : (size : ℕ) (windows : List Window) (a n : ℕ) → groupOf size windows a n ≡ Okay
-      → judgedOf size windows a n ≡ refusedOf 0
+      → locationOf size windows a n ≡ toldAlone 0
   pub group-slave : (size : ℕ) (windows : List Window) (a n : ℕ) → groupOf size windows a n ≡ Slave
-      → let r = judgedOf size windows a n in
+      → let r = locationOf size windows a n in
       (r .verdict ≡ Slave) × Lowest size windows Slave (λ x. x) a n (r .place) × Holder windows (r .place) (r .window)
   pub group-decode : (size : ℕ) (windows : List Window) (a n : ℕ) → groupOf size windows a n ≡ Decode
-      → let r = judgedOf size windows a n in
+      → let r = locationOf size windows a n in
       (r .verdict ≡ Decode) × Lowest size windows Decode (λ x. x) a n (r .place) × (r .window ≡ 0)
   -- two results that the contract of `locate` allows are equal
-  pub unique : (x : Told) (r q : Located) → locatedSeen r ≡ x → locatedSeen q ≡ x → r ≡ q
+  pub unique : (x : Location) (r q : Located) → locatedSeen r ≡ x → locatedSeen q ≡ x → r ≡ q

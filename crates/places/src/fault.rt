@@ -3,20 +3,15 @@ use crate::found::Found;
 use crate::found::address;
 use crate::found::first_found;
 use crate::group::lowest;
+use kit::order::least;
 use memory::verdict::Verdict;
 ghost use mathlib.Core.Path.{_≡_};
 ghost use mathlib.Core.Bool.{true};
-ghost use Prim.Native.Nat.{_+_, _≤_, _<_, min};
+ghost use Prim.Native.Nat.{_+_, _≤_, _<_};
 ghost use Rattle.kit.specs.Limits.{mostMemory, addressEnd};
 ghost use Rattle.memory.specs.Windows.{windowsOf};
 ghost use Rattle.sides.specs.Sides.{placeOf};
 ghost use Rattle.places.specs.Places.{lowestOf, faultOf, addressOf};
-
-fn least(a: u32, b: u32) -> u32
-    ensures { λ r. ⌜ r ≡ min a b ⌝ }
-{
-    if a < b { a } else { b }
-}
 
 // Of the `count` bytes from the transfer's byte `from` on, in the word at `start`. Those from the word's front on lie below those
 // up to its end.

@@ -1,20 +1,15 @@
 // What memory answers for the bytes of a burst, those and no others, on both sides together.
 use kit::limits::MOST_MEMORY;
+use kit::order::least;
 use memory::verdict::Verdict;
 use memory::verdict::judge;
 ghost use mathlib.Core.Path.{_≡_};
 ghost use mathlib.Core.Bool.{true};
-ghost use Prim.Native.Nat.{_+_, _≤_, _<_, min};
+ghost use Prim.Native.Nat.{_+_, _≤_, _<_};
 ghost use Rattle.kit.specs.Limits.{mostMemory, addressEnd};
 ghost use Rattle.memory.specs.Windows.{windowsOf};
 ghost use Rattle.memory.specs.Verdict.{worse as worseOf};
 ghost use Rattle.sides.specs.Sides.{placeOf, sideAnswer, sidesAnswer};
-
-fn least(a: u32, b: u32) -> u32
-    ensures { λ r. ⌜ r ≡ min a b ⌝ }
-{
-    if a < b { a } else { b }
-}
 
 // Decode error before slave error before OKAY.
 fn worse(first: Verdict, second: Verdict) -> Verdict

@@ -111,7 +111,7 @@ pub fn told_at(writes: bool, transfer: Transfer) -> u32
     transfer.destination + transfer.moved
 }
 
-// The place that its event tells, if memory refused it: of a byte that gave the verdict. It is looked for only then.
+// The byte at which memory refused it, which the event of a fault tells. It is looked for only after such a verdict.
 fn fault_at(
     engine: Engine,
     transfer: Transfer,

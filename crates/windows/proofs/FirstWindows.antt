@@ -18,7 +18,7 @@ use Rattle.memory.specs.Windows.{windowsOf}
 use Rattle.state.specs.declared.engine.Engine.{Engine}
 use Rattle.state.specs.State.{wellFormedOf}
 use Rattle.steps.specs.Step.{begun, advanceOf}
-use Rattle.places.specs.Locate.{refusedOf, judgedOf, locatedOf}
+use Rattle.places.specs.Locate.{toldAlone, locationOf, locatedOf}
 use Rattle.runs.specs.Run.{refusalOf, walkFrom, stepAnswer, stepOf, runAnswer, runOf}
 use Rattle.windows.specs.Flat.{flatOf}
 use Rattle.windows.specs.Table.{most}
@@ -75,8 +75,8 @@ module _ (s : Engine) (m ns ks : List ℕ) (hn : mostWindows < length ns / 2) (h
 locate-many : (size a n : ℕ) (ns ks : List ℕ) → mostWindows < length ns / 2 → mostWindows < length ks / 2 → locatedOf size ns a n ≡ locatedOf size ks a n
 unfolding locatedOf
 locate-many size a n ns ks hn hk =
-    ap (when (ltb mostMemory size) (refusedOf 2))
-    (sym (yes (judgedOf size (windowsOf ns) a n) (lt-ltb mostWindows (length ns / 2) hn) refl) ∙ yes (judgedOf size (windowsOf ks) a n) (lt-ltb mostWindows (length ks / 2) hk) refl)
+    ap (when (ltb mostMemory size) (toldAlone 2))
+    (sym (yes (locationOf size (windowsOf ns) a n) (lt-ltb mostWindows (length ns / 2) hn) refl) ∙ yes (locationOf size (windowsOf ks) a n) (lt-ltb mostWindows (length ks / 2) hk) refl)
 
 -- ---- all windows and the first
 

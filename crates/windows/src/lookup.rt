@@ -21,7 +21,7 @@ pub fn judge(size: usize, windows: &[Window], start: u64, bytes: u64) -> Verdict
     decide(size, start, bytes, sick)
 }
 
-// The same with its place and its window, and with answers: those of the crate places.
+// What `locate` of places gives, over lent windows: an answer, and beside it the verdict, its place and its window.
 pub fn locate(size: usize, windows: &[Window], start: u32, bytes: u32) -> Located
     ensures { λ r. ⌜ locatedSeen r ≡ locatedOf size (flatOf (now (windows .entry))) start bytes ⌝ }
 {

@@ -7,7 +7,7 @@ use Rattle.kit.proofs.Choice.{yes, no}
 use Rattle.memory.specs.declared.verdict.Verdict.{Verdict}
 use Rattle.memory.specs.Windows.{windowsOf}
 use Rattle.places.specs.Places.{lowestIn, addressOf}
-use Rattle.places.specs.Locate.{Told, toldBy, locatedSeen, locatedOf}
+use Rattle.places.specs.Locate.{Location, locationBy, locatedSeen, locatedOf}
 use Rattle.places.proofs.locate.locate.Statement.{statement}
 use Rattle.places.proofs.locate.locate.Tie as tie
 
@@ -27,9 +27,9 @@ returns-3 c =
     let v = c .before .before .before .judge .result in
     let p = c .before .address .result in
     no _ (le-ltb _ _ (c .before .before .before .before .before .if1 .left)) (no _ (le-ltb _ _ (c .before .before .before .before .if2 .left))
-    (ap {B = Told} (λ (n : ℕ). record { answer = 0; verdict = v; place = p; window = n }) (c .window-of .ensures)
-    ∙ ap (toldBy ws v) (c .before .address .ensures ∙ ap addressOf (c .before .before .lowest .ensures))
-    ∙ ap (λ (u : Verdict). toldBy ws u (addressOf (lowestIn (a .size) ws u (a .start) (a .bytes)))) (c .before .before .before .judge .ensures)))
+    (ap {B = Location} (λ (n : ℕ). record { answer = 0; verdict = v; place = p; window = n }) (c .window-of .ensures)
+    ∙ ap (locationBy ws v) (c .before .address .ensures ∙ ap addressOf (c .before .before .lowest .ensures))
+    ∙ ap (λ (u : Verdict). locationBy ws u (addressOf (lowestIn (a .size) ws u (a .start) (a .bytes)))) (c .before .before .before .judge .ensures)))
 
 pub locate-spec : {M : Type 1} → statement M
 locate-spec =

@@ -3,7 +3,7 @@
 
 use crate::answer;
 use crate::cut;
-use crate::memory::{self, Verdict, Window};
+use crate::memory::{self, Side, Verdict, Window};
 
 /// How a chain transfer ended, while it waits for its update.
 #[derive(Clone, Copy, Debug, PartialEq, Eq)]
@@ -558,8 +558,8 @@ impl Engine {
         let bytes = cut::first_burst(self.width, self.beats, to, total - moved);
         let kind = memory::verdict(memory.len(), windows, [from, to], bytes);
         if kind != Verdict::Okay {
-            let group = |start: u32| (u64::from(start)..).take(bytes as usize);
-            return self.fault(memory.len(), windows, kind, group(from), group(to));
+            let sides = [Side::Run(from, bytes), Side::Run(to, bytes)];
+            return self.fault(memory.len(), windows, kind, sides);
         }
         copy(memory, from, to, bytes);
         self.phase = self.moved_to(Transfer { moved: moved + bytes, ..transfer });
@@ -594,7 +594,15 @@ impl Engine {
         // Reading: judged are the bytes that the burst uses, of a fixed word a part if it is short.
         let kind = memory::verdict_of_bytes(memory.len(), windows, from.iter().chain(&to));
         if kind != Verdict::Okay {
-            return self.fault(memory.len(), windows, kind, from, to);
+            let side = |start: u32, fixed: bool, places| match fixed {
+                true => Side::Places(places),
+                false => Side::Run(start + moved, bytes),
+            };
+            let sides = [
+                side(source, self.key_hole_read, &from),
+                side(destination, self.key_hole_write, &to),
+            ];
+            return self.fault(memory.len(), windows, kind, sides);
         }
         let burst: Vec<u8> = from.iter().map(|&at| memory[at as usize]).collect();
         // In rising k: of the bytes for one place the last one stays.
@@ -605,22 +613,22 @@ impl Engine {
         Event::Move { start, bytes }
     }
 
-    /// A burst from and to these bytes that failed, its kind being that of all of them. Reading:
-    /// bursts moved before stay written; a chain transfer that failed stays busy without an error
-    /// bit until its update; a failing simple move is the event fault alone.
+    /// A burst that failed, its source and its destination, its kind being that of both together.
+    /// Reading: bursts moved before stay written; a chain transfer that failed stays busy without
+    /// an error bit until its update; a failing simple move is the event fault alone.
     #[cold]
     fn fault(
         &mut self,
         length: usize,
         windows: &[Window],
         kind: Verdict,
-        from: impl IntoIterator<Item = u64>,
-        to: impl IntoIterator<Item = u64>,
+        sides: [Side; 2],
     ) -> Event {
         // Reading: if both sides give the kind, it is the source's place, even where the
         // destination's is lower. The lowest byte counts, also where a burst goes round a fixed word.
-        let place = memory::lowest(length, windows, from, kind)
-            .or_else(|| memory::lowest(length, windows, to, kind))
+        let place = sides
+            .into_iter()
+            .find_map(|side| memory::lowest(length, windows, side, kind))
             .expect("a byte of the burst gave its kind");
         let (outcome, bit) = match kind {
             Verdict::Decode => (Outcome::Decode, DMA_DEC_ERR),

@@ -32,6 +32,15 @@ pub struct Judged {
     pub window: u32,
 }
 
+/// Bytes that are one side of a burst.
+#[derive(Clone, Copy)]
+pub enum Side<'a> {
+    /// A start and a number: bytes that follow each other, of a side that increments.
+    Run(u32, u32),
+    /// Bytes in any order, each maybe more than once, of a fixed side.
+    Places(&'a [u64]),
+}
+
 /// The last byte of a window that is not empty.
 /// Reading: it is reckoned without wrapping; past 2^32 there is no byte, so it may stop there.
 #[inline]
@@ -113,14 +122,35 @@ pub fn verdict_of_bytes<'a>(
     together
 }
 
-/// The lowest of some bytes that answers so, if any does. They need not follow each other.
-pub fn lowest(
+/// The lowest byte of a side that gives this error, if any does.
+pub fn lowest(length: usize, windows: &[Window], side: Side, kind: Verdict) -> Option<u64> {
+    match side {
+        Side::Run(start, count) => lowest_of_run(length, windows, start, count, kind),
+        Side::Places(places) => {
+            let gives = |at: &u64| verdict_of_byte(length, windows, *at) == kind;
+            places.iter().copied().filter(gives).min()
+        }
+    }
+}
+
+/// The lowest of the `count` bytes from `start` on that gives this error, if any does. Not looked
+/// for byte by byte: of a burst they may be a page, of a library caller 2^32 less one.
+fn lowest_of_run(
     length: usize,
     windows: &[Window],
-    places: impl IntoIterator<Item = u64>,
+    start: u32,
+    count: u32,
     kind: Verdict,
 ) -> Option<u64> {
-    places.into_iter().filter(|&at| verdict_of_byte(length, windows, at) == kind).min()
+    // All that are in memory come before all that are not.
+    let inside = good_bytes(length, &[], start, count);
+    let (before, end) = match kind {
+        Verdict::Okay => return None,
+        Verdict::Slave => (good_bytes(length, windows, start, inside), inside),
+        // Reading: a lower sick byte is not named.
+        Verdict::Decode => (inside, count),
+    };
+    (before < end).then(|| u64::from(start) + u64::from(before))
 }
 
 /// Judges the `count` bytes from `start` on for a library caller. Windows are numbers, start and
@@ -135,18 +165,18 @@ pub fn judge(length: usize, numbers: &[u32], start: u32, count: u32) -> Judged {
     }
     let windows: Vec<Window> = pairs.iter().map(|&[start, length]| (start, length)).collect();
     let kind = verdict(length, &windows, [start], count);
-    // The group may have 2^32 bytes less one, so its place is not looked for byte by byte.
-    let (place, window) = match kind {
-        Verdict::Okay => (0, 0),
-        // Reading: a lower sick byte is not named.
-        Verdict::Decode => (start.max(length as u32), 0),
-        Verdict::Slave => {
-            let place = start + good_bytes(length, &windows, start, count);
-            let window = first_window(&windows, place.into()).expect("a sick byte has a window");
-            (place, window as u32)
-        }
+    let place = lowest_of_run(length, &windows, start, count, kind).unwrap_or(0);
+    let window = match kind {
+        Verdict::Slave => first_window(&windows, place).expect("a sick byte has a window"),
+        _ => 0,
     };
-    Judged { answer: answer::DONE, verdict: kind as u32, place, window }
+    // A group starts below 2^32, and so does what fails first in it.
+    Judged {
+        answer: answer::DONE,
+        verdict: kind as u32,
+        place: place as u32,
+        window: window as u32,
+    }
 }
 
 /// How many of the `most` bytes from `start` on answer OKAY, up to the first that does not.

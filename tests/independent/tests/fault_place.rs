@@ -7,7 +7,7 @@ mod common;
 
 use common::{descriptor, put, some_engine, some_memory, some_windows, Trace};
 use independent::engine::{Engine, Event, Phase, Transfer};
-use independent::memory::{judge, lowest, Judged, Verdict, Window};
+use independent::memory::{judge, lowest, Judged, Side, Verdict, Window};
 use independent::record::Record;
 use independent::trace::{replay, replay_before, Observer, Replay};
 use shared::random::Random;
@@ -698,12 +698,6 @@ fn random_groups() {
         let expected = byte_by_byte(length, &windows, &group);
         let told = format!("{length} {windows:?} {start},{bytes}");
         assert_eq!(judge(length, &numbers, start, bytes), expected, "{told}");
-        for kind in [Verdict::Slave, Verdict::Decode] {
-            if kind as u32 == expected.verdict {
-                let place = Some(u64::from(expected.place));
-                assert_eq!(lowest(length, &windows, group.clone(), kind), place, "{told}");
-            }
-        }
         let at = if expected.place == start { 0 } else { 1 };
         seen[expected.verdict as usize][if expected.window > 0 { 2 } else { at }] += 1;
     }
@@ -711,6 +705,66 @@ fn random_groups() {
     let [[none, other, _], slave, [at_start, inside, _]] = seen;
     let all = [none + other, slave[0], slave[1], slave[2], at_start, inside];
     assert!(all.iter().all(|&count| count > 2000), "{seen:?}");
+}
+
+/// The lowest of these bytes that gives this error, one by one, each with every window.
+fn lowest_byte(length: u64, windows: &[Window], group: &[u64], kind: Verdict) -> Option<u64> {
+    let holds = |&(start, count): &Window, at: u64| {
+        (0..u64::from(count)).contains(&at.wrapping_sub(start.into()))
+    };
+    let gives = |at: u64| match kind {
+        Verdict::Decode => at >= length,
+        _ => at < length && windows.iter().any(|window| holds(window, at)),
+    };
+    group.iter().copied().filter(|&at| gives(at)).min()
+}
+
+/// A side as a run, by intervals, and as places, for each kind: also one that does not win, as of a
+/// sick source beside a destination past the end. Nothing is lent, so the memory may end at 2^32.
+#[test]
+fn random_sides() {
+    const TOP: u64 = 1 << 32;
+    let mut random = Random::new(8, 7);
+    let mut seen = [[0; 4]; 2];
+    for _ in 0..200_000 {
+        // All of it near 0, or all of it near 2^32.
+        let top = random.one_in(2);
+        let length = u64::from(random.below(80)) + if top { TOP - 60 } else { 0 };
+        let near = |random: &mut Random| match top {
+            true => u32::MAX - random.below(80),
+            false => random.below(90),
+        };
+        let windows: Vec<Window> = (0..random.below(6))
+            .map(|_| {
+                let count = match random.below(8) {
+                    0 => u32::MAX - random.below(90),
+                    1 => 0,
+                    _ => random.below(12),
+                };
+                (near(&mut random), count)
+            })
+            .collect();
+        let (start, count) = (near(&mut random), random.below(40));
+        let mut group: Vec<u64> = (u64::from(start)..).take(count as usize).collect();
+        let errors = [Verdict::Slave, Verdict::Decode];
+        let expected = errors.map(|kind| lowest_byte(length, &windows, &group, kind));
+        let told = format!("{length} {windows:?} {start},{count}");
+        let found = |side| errors.map(|kind| lowest(length as usize, &windows, side, kind));
+        assert_eq!(found(Side::Run(start, count)), expected, "{told}");
+        // The order of places does not matter, nor that one comes twice.
+        group.reverse();
+        group.extend_from_within(..group.len() / 2);
+        assert_eq!(found(Side::Places(&group)), expected, "{told}");
+        let row = match expected {
+            [None, None] => 0,
+            [Some(_), None] => 1,
+            [None, Some(_)] => 2,
+            [Some(_), Some(_)] => 3,
+        };
+        seen[usize::from(top)][row] += 1;
+    }
+    // Good sides, those with one error, and those with both.
+    assert!(seen.iter().flatten().all(|&count| count > 2000), "{seen:?}");
 }
 
 /// A step that faults gives the place that a library caller gets for its source bytes if they give

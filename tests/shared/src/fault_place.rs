@@ -1,8 +1,6 @@
 // Where the faults of a run were, for both coverage tables: worked out from the bytes that each side
-// of a burst uses, by intervals and not byte by byte.
+// of a burst uses, byte by byte: the independent program goes by intervals.
 // From RULES.md, "Memory that answers badly" and "Descriptor and steps".
-
-use std::iter::once;
 
 use independent::engine::Engine;
 use independent::memory::{Window, MOST_WINDOWS};
@@ -86,16 +84,11 @@ enum Kind {
 /// The lowest of these bytes that is past the memory's end, or the lowest that is in memory and in a
 /// window.
 fn lowest(used: &[Bytes], memory: u64, windows: &[Window], kind: Kind) -> Option<u64> {
-    let bad: Vec<Bytes> = match kind {
-        Kind::Decode => once(memory..u64::MAX).collect(),
-        Kind::Slave => {
-            let within = |window: &Window| sick(window).start..sick(window).end.min(memory);
-            windows.iter().map(within).collect()
-        }
+    let gives = |at: &u64| match kind {
+        Kind::Decode => *at >= memory,
+        Kind::Slave => *at < memory && windows.iter().any(|window| sick(window).contains(at)),
     };
-    let both = |used: &Bytes, bad: &Bytes| used.start.max(bad.start)..used.end.min(bad.end);
-    let all = used.iter().flat_map(|used| bad.iter().map(move |bad| both(used, bad)));
-    all.filter(|bytes| !bytes.is_empty()).map(|bytes| bytes.start).min()
+    used.iter().cloned().flatten().filter(gives).min()
 }
 
 /// The lowest byte past the memory's end and the lowest sick one of each side of a burst.

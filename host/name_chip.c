@@ -1,7 +1,8 @@
 /*
  * Names the chip behind a failure. The memory has two sick windows, each of one faulty chip. A copy meets both in one burst;
- * the fault tells one byte, and belikumba_judge tells for each side of the burst which window it meets. Then a descriptor on a
- * faulty chip, one past the end of memory, and the copy again as the chips are replaced. Each call is printed with its answer.
+ * the fault tells one byte, belikumba_judge of that byte its window, and of the destination bytes what the fault did not tell.
+ * Then a descriptor on a faulty chip, one past the end of memory, and the copy again as the chips are replaced. Each call is
+ * printed with its answer.
  *
  *     ./belikumba lib
  *     cc -Iinclude host/name_chip.c target/host/libbelikumba.a -o target/host/name_chip
@@ -26,7 +27,7 @@ static uint32_t windows[] = {330, 2, 4170, 8};
 /* Asks what the bytes from `start` on answer, and names the chip if a window holds the place. */
 static void show_judged(const char *what, struct board board, uint32_t start, uint32_t bytes) {
     struct belikumba_judged judged = belikumba_judge(board.bytes, board.windows, board.window_numbers, start, bytes);
-    printf("%s, %" PRIu32 " bytes from %" PRIu32 ": ", what, bytes, start);
+    printf("%s, %" PRIu32 " byte%s from %" PRIu32 ": ", what, bytes, bytes == 1 ? "" : "s", start);
     switch (judged.verdict) {
     case BELIKUMBA_SLAVE_ERROR:
         printf("slave error at %" PRIu32 ", window %" PRIu32 ", chip %s", judged.place, judged.window, chips[judged.window]);
@@ -45,7 +46,10 @@ static uint32_t place_at(const uint8_t *bytes) {
     return (uint32_t)bytes[0] | (uint32_t)bytes[1] << 8 | (uint32_t)bytes[2] << 16 | (uint32_t)bytes[3] << 24;
 }
 
-/* The plan has the bursts of the copy in order, so it tells which bytes the failed one has on each side. */
+/*
+ * The byte that a fault tells is asked for its window. If it is the source's, the destination may have failed too; the plan has
+ * the bursts of the copy in order, so it tells which destination bytes the failed one has.
+ */
 static void copy(uint32_t *engine, struct board board) {
     uint8_t places[2 * 8];
     struct belikumba_planned planned = belikumba_plan(4, 16, DESTINATION, BYTES, places, sizeof places);
@@ -53,10 +57,10 @@ static void copy(uint32_t *engine, struct board board) {
     show_write(engine, BELIKUMBA_DA, DESTINATION);
     show_write(engine, BELIKUMBA_BTT, BYTES);
     for (uint32_t i = 0; i < planned.bursts; i++) {
-        if (show_step(engine, board).event == BELIKUMBA_FAULT) {
-            uint32_t start = place_at(places + 8 * i), bytes = place_at(places + 8 * i + 4);
-            show_judged("source", board, SOURCE + (start - DESTINATION), bytes);
-            show_judged("destination", board, start, bytes);
+        struct belikumba_stepped stepped = show_step(engine, board);
+        if (stepped.event == BELIKUMBA_FAULT) {
+            show_judged("failed", board, stepped.first, 1);
+            show_judged("destination", board, place_at(places + 8 * i), place_at(places + 8 * i + 4));
             break;
         }
     }

@@ -199,8 +199,9 @@ struct belikumba_judged {
  *
  * A step judges by the same rules. To find where it failed, ask with the length and the windows that the step was lent:
  *
- *     BELIKUMBA_FAULT    the first number is a place already. For its window, and for the side that the fault does not tell,
- *                        judge the burst's source bytes and its destination bytes, as host/name_chip.c does.
+ *     BELIKUMBA_FAULT    the first number is the place. For its window judge the 1 byte at the place. If the place is the
+ *                        source's, judge the burst's destination bytes too: they may have failed as well, and the fault does not
+ *                        tell. host/name_chip.c does both.
  *     BELIKUMBA_HALT     judge the 32 bytes at CURDESC if the step was a fetch, or the 4 bytes at CURDESC + 28 if it was an
  *                        update; word 15 of the engine before the step says which. If the event's second number is 8, the
  *                        descriptor was complete already, and no byte failed.

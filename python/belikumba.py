@@ -274,8 +274,9 @@ def judge(memory, windows, start, bytes):
     `memory` is the memory or its number of bytes: what is in it is not looked at. `windows` are (start, length), as for a
     step, and are numbered from 0 in their order. Where a step failed:
 
-    - a FAULT's first number is the place; judge the burst's source bytes and its destination bytes for the window;
-    - after a HALT at a fetch, judge the 32 bytes at CURDESC; at an update, the 4 bytes at CURDESC + 28.
+    - a FAULT's first number is the place; judge the 1 byte there for its window;
+    - after a HALT at a fetch, judge the 32 bytes at CURDESC; at an update, the 4 bytes at CURDESC + 28. If its second
+      number is 8, the descriptor was complete already, and no byte failed.
     """
     length = memory if isinstance(memory, int) else memoryview(memory).nbytes
     length = _number(length, ctypes.c_size_t(-1).value)

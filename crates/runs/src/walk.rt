@@ -37,11 +37,11 @@ pub struct Walked {
     pub engine: Engine,
 }
 
-// More bytes are to go than `beats` words have, so asking how far memory is good pays.
+// More bytes are to go than twice `beats` words have, so asking how far memory is good pays.
 fn long(settings: Settings, transfer: Transfer) -> bool
     requires { ⌜ transferFits transfer ≡ true ⌝ }
 {
-    span(settings.width, settings.beats) < (transfer.total - transfer.moved) as u64
+    span(settings.width, settings.beats) < ((transfer.total - transfer.moved) / 2) as u64
 }
 
 // The event of the last of some bursts.
@@ -72,12 +72,20 @@ fn good_bursts(
 {
     let reads = control.keyholeread;
     let writes = control.keyholewrite;
-    // Two calls, so that it stays a call: compiled into the loop of a run, it would slow down all other transfers.
+    // Two calls of each, so that it stays a call: compiled into the loop of a run, `glide_fixed` would slow down all other
+    // transfers, and the loop of `glide` would have no registers of its own.
     if reads {
         return glide_fixed(settings, reads, writes, transfer, memory, windows, most);
     }
     if writes {
         return glide_fixed(settings, reads, writes, transfer, memory, windows, most);
+    }
+    if transfer.moved == 0 {
+        let whole = Transfer {
+            moved: 0,
+            ..transfer
+        };
+        return glide(settings, whole, memory, windows, most);
     }
     glide(settings, transfer, memory, windows, most)
 }

@@ -34,7 +34,7 @@ function bit(value, place) { return int(value / power[place]) % 2 }
 
 # ---- What a record says
 
-function control(value,    text, known, threshold) {
+function control(value,    text, known) {
     if (bit(value, 2)) return "Reset"
     text = ""
     known = 0
@@ -44,9 +44,6 @@ function control(value,    text, known, threshold) {
     if (bit(value, 12)) { text = text " IOC_IrqEn"; known += 4096 }
     if (bit(value, 14)) { text = text " Err_IrqEn"; known += 16384 }
     if (text == "") text = " simple mode, no interrupts"
-    # 0 in the field leaves the threshold as it is.
-    threshold = int(value / power[16]) % 256
-    if (threshold) { text = text ", IRQThreshold " threshold; known += threshold * power[16] }
     return substr(text, 2) (value > known ? "; other bits are ignored" : "")
 }
 

@@ -97,7 +97,7 @@ static void watch_bus(void) {
 }
 
 int main(void) {
-    uint32_t engine[BELIKUMBA_ENGINE_WORDS] = BELIKUMBA_FRESH(4, 16);
+    uint32_t engine[BELIKUMBA_ENGINE_WORDS] = {4, 16};
     struct board board = {memory, sizeof memory, NULL, 0};
     put_bytes(board, BLOCK, BLOCK_BYTES);
     copy_simply(engine, board);

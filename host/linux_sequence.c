@@ -15,12 +15,15 @@
 /* The interrupts that the driver enables and acknowledges: completion, delay (bit 13, not modelled) and error. */
 enum { ALL_IRQ = 7 << 12 };
 
+/* The driver's count of descriptors for one interrupt, in CDMACR bits 23..16 (not modelled). */
+enum { COALESCE_SHIFT = 16, COALESCE_MASK = 0xFF << 16 };
+
 /* Three descriptors, 64 bytes apart, and the data that they copy. */
 enum { DESCRIPTORS = 1024, COUNT = 3, SOURCE = 4096, DESTINATION = 8192, BYTES = 100 };
 
 static uint8_t memory[3 * 4096];
 
-/* The driver changes CDMACR by reading it and writing it back; so each such write holds the threshold, and loads the counter. */
+/* The driver changes CDMACR by reading it and writing it back. */
 static void set_control(uint32_t *engine, uint32_t bits) {
     show_write(engine, BELIKUMBA_CDMACR, show_read(engine, BELIKUMBA_CDMACR) | bits);
 }
@@ -55,11 +58,10 @@ static void make_chain(struct board board) {
     }
 }
 
-/* One interrupt is asked for, after as many descriptors as there are; SGMode goes off and on so the core takes the new CURDESC. */
+/* One interrupt is asked for after all descriptors; SGMode goes off and on so the core takes the new CURDESC. */
 static void start(uint32_t *engine) {
     uint32_t control = show_read(engine, BELIKUMBA_CDMACR);
-    control &= ~(uint32_t)BELIKUMBA_CDMACR_IRQTHRESHOLD;
-    show_write(engine, BELIKUMBA_CDMACR, control | COUNT << BELIKUMBA_IRQTHRESHOLD_SHIFT);
+    show_write(engine, BELIKUMBA_CDMACR, (control & ~(uint32_t)COALESCE_MASK) | COUNT << COALESCE_SHIFT);
     clear_control(engine, BELIKUMBA_CDMACR_SGMODE);
     set_control(engine, BELIKUMBA_CDMACR_SGMODE);
     show_write(engine, BELIKUMBA_CURDESC, descriptor(0));
@@ -92,7 +94,7 @@ static void let_run(uint32_t *engine, struct board board) {
 }
 
 int main(void) {
-    uint32_t engine[BELIKUMBA_ENGINE_WORDS] = BELIKUMBA_FRESH(4, 16);
+    uint32_t engine[BELIKUMBA_ENGINE_WORDS] = {4, 16};
     struct board board = {memory, sizeof memory, NULL, 0};
     probe(engine);
 

@@ -79,7 +79,7 @@ static void fetch(uint32_t *engine, struct board board, uint32_t descriptor) {
 }
 
 int main(void) {
-    uint32_t engine[BELIKUMBA_ENGINE_WORDS] = BELIKUMBA_FRESH(4, 16);
+    uint32_t engine[BELIKUMBA_ENGINE_WORDS] = {4, 16};
     struct board board = {memory, sizeof memory, windows, 4};
     puts("both chips faulty");
     copy(engine, board);

@@ -118,7 +118,7 @@ static void meet(engine_words *engines, struct board board, int earlier) {
 }
 
 int main(void) {
-    engine_words engines[2] = {BELIKUMBA_FRESH(4, 16), BELIKUMBA_FRESH(4, 16)};
+    engine_words engines[2] = {{4, 16}, {4, 16}};
     struct board board = {memory, sizeof memory, NULL, 0};
     step_in_turn(engines, board);
     run_in_turn(engines, board);

@@ -10,7 +10,7 @@
  * A copy of 16 bytes from address 256 to 4088, in memory of 8,192 bytes:
  *
  *     static uint8_t memory[8192];
- *     uint32_t engine[BELIKUMBA_ENGINE_WORDS] = BELIKUMBA_FRESH(4, 16);   // a fresh engine: 4 bytes wide, 16 beats
+ *     uint32_t engine[BELIKUMBA_ENGINE_WORDS] = {4, 16};                  // a fresh engine: 4 bytes wide, 16 beats
  *     belikumba_write(engine, BELIKUMBA_CDMACR, BELIKUMBA_CDMACR_IOC_IRQEN);
  *     belikumba_write(engine, BELIKUMBA_SA, 256);
  *     belikumba_write(engine, BELIKUMBA_DA, 4088);
@@ -120,7 +120,7 @@ enum belikumba_cdmacr {
     BELIKUMBA_CDMACR_KEY_HOLE_WRITE = 1 << 5, /* the destination does */
     BELIKUMBA_CDMACR_IOC_IRQEN = 1 << 12,
     BELIKUMBA_CDMACR_ERR_IRQEN = 1 << 14,
-    BELIKUMBA_CDMACR_IRQTHRESHOLD = 0xFF << 16 /* a field: the threshold; 1 to 255 also loads the counter, 0 leaves both */
+    BELIKUMBA_CDMACR_IRQTHRESHOLD = 0xFF << 16 /* a field that always reads 1 */
 };
 
 enum belikumba_cdmasr {
@@ -132,19 +132,11 @@ enum belikumba_cdmasr {
     BELIKUMBA_CDMASR_SGINTERR = 1 << 8,   /* a descriptor that was complete already */
     BELIKUMBA_CDMASR_SGSLVERR = 1 << 9,   /* slave error in a descriptor */
     BELIKUMBA_CDMASR_SGDECERR = 1 << 10,  /* decode error in a descriptor */
-    BELIKUMBA_CDMASR_IOC_IRQ = 1 << 12,   /* write 1 to clear, which leaves the counter */
+    BELIKUMBA_CDMASR_IOC_IRQ = 1 << 12,   /* write 1 to clear */
     BELIKUMBA_CDMASR_ERR_IRQ = 1 << 14,   /* write 1 to clear */
     BELIKUMBA_CDMASR_ERRORS = 0x770,      /* the six error bits; only a reset clears them */
-    BELIKUMBA_CDMASR_IRQTHRESHOLDSTS = 0xFF << 16 /* a field: the counter, the good updates still to come to set IOC_Irq */
+    BELIKUMBA_CDMASR_IRQTHRESHOLDSTS = 0xFF << 16 /* a field that always reads 1 */
 };
-
-/*
- * How far up threshold and counter (RULES.md 5.7) are. One interrupt for every three descriptors, in chain mode:
- *
- *     belikumba_write(engine, BELIKUMBA_CDMACR,
- *                     BELIKUMBA_CDMACR_SGMODE | BELIKUMBA_CDMACR_IOC_IRQEN | 3 << BELIKUMBA_IRQTHRESHOLD_SHIFT);
- */
-enum { BELIKUMBA_IRQTHRESHOLD_SHIFT = 16 };
 
 /* ---- Descriptor (RULES.md 6.1) ---- */
 
@@ -220,7 +212,7 @@ struct belikumba_judged belikumba_judge(size_t memory_bytes, const uint32_t *win
 /* ---- Engine (RULES.md 5 and 6) ---- */
 
 /*
- * An engine is kept by its caller, in 24 numbers that each call is lent:
+ * An engine is kept by its caller, in 22 numbers that each call is lent:
  *
  *      0  width of the bus in bytes           8  CURDESC, the current pointer
  *      1  beats of a burst at most            9  TAILDESC
@@ -236,10 +228,8 @@ struct belikumba_judged belikumba_judge(size_t memory_bytes, const uint32_t *win
  *                                            18  its bytes in all
  *                                            19  its bytes moved so far; 16 to 19 are 0 in any other phase
  *     20  Key Hole Read, 0 or 1              21  Key Hole Write, 0 or 1
- *     22  the interrupt threshold, 1 to 255  23  its counter, 1 to the threshold (RULES.md 5.7)
  *
- * A fresh engine has its width and beats, 1 as threshold and as counter, and 0 in all other words. BELIKUMBA_FRESH, below, is
- * that list. Words that are all 0 but for width and beats are not well formed: calls on them answer 9.
+ * A fresh engine has its width and beats and 0 in all other words: uint32_t engine[BELIKUMBA_ENGINE_WORDS] = {4, 16};
  *
  * Two engines that share a memory are two such lists; each call is lent the one that it is for, and memory and windows as
  * they stand, one call at a time. If one writes what the other reads or writes, the order of their steps matters; else it does
@@ -248,33 +238,21 @@ struct belikumba_judged belikumba_judge(size_t memory_bytes, const uint32_t *win
  * Any numbers may be lent. Words that no engine has, and those of an engine that is not well formed, get answer 9.
  * Each engine has one list of words: two engines are the same if their words are.
  */
-#define BELIKUMBA_ENGINE_WORDS 24
-
-/* A fresh engine, as the initializer of an array: uint32_t engine[BELIKUMBA_ENGINE_WORDS] = BELIKUMBA_FRESH(4, 16); */
-#define BELIKUMBA_FRESH(width, beats) \
-    {(uint32_t)(width), (uint32_t)(beats), 0, 0, 0, 0, 0, 0, 0, 0, 0, 0, 0, 0, 0, 0, 0, 0, 0, 0, 0, 0, 1, 1}
+#define BELIKUMBA_ENGINE_WORDS 22
 
 /*
- * Rises whenever the words of an engine or a monitor change, or a function's arguments do. It is the first number of the version,
- * and the shared library is named after it (libbelikumba.so.3), so a program never meets a library of another number; one that is
- * linked with the archive is compiled again with its header. Keep this number beside words that are stored:
+ * Rises whenever the words of an engine or a monitor change, or a function's arguments do. The shared library is named
+ * after it (libbelikumba.so.2), so a program never meets a library of another number; one that is linked with the
+ * archive is compiled again with its header. Keep this number beside words that are stored:
  *
  *     1  an engine has 20 words
  *     2  it has 22. The words of 1 and then 0, 0 are the same engine.
- *     3  it has 24. The words of 2 and then 1, 1 are the same engine.
  *
- * What a program of 2 notices when it is compiled again:
- *
- *     An engine that is initialised by {4, 16} has 0 as its threshold and is not well formed. Every call on it answers 9, unless 2
- *     or 6 comes before. Write BELIKUMBA_FRESH(4, 16).
- *     CDMACR bits 23..16 are kept. After 2 to 255 was written there, IOC_Irq in chain mode is set by one good update in so many,
- *     and reads of CDMACR and CDMASR show threshold and counter. If only 0 and 1 are written there, all is as before.
- *
- * The number does not rise if a function is added, or if an event tells another number. So it was with version 2.3:
+ * It does not rise if a function is added, or if an event tells another number. What a caller of 2 notices since version 2.3:
  * BELIKUMBA_FAULT tells the byte that failed, where it told the start of the burst's destination bytes; and there is one
  * function more, belikumba_judge.
  */
-#define BELIKUMBA_INTERFACE 3
+#define BELIKUMBA_INTERFACE 2
 
 struct belikumba_value {
     uint32_t answer; /* 0, 1, 3 or 9 */

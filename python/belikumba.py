@@ -84,7 +84,7 @@ class Register(enum.IntEnum):
 
 
 class Control(enum.IntFlag):
-    """Bits of CDMACR; RULES.md 5.2. `Control.SGMODE | Control.threshold(3)` has an interrupt threshold too."""
+    """Bits of CDMACR; RULES.md 5.2."""
 
     RESET = 1 << 2
     SGMODE = 1 << 3
@@ -92,12 +92,6 @@ class Control(enum.IntFlag):
     KEY_HOLE_WRITE = 1 << 5
     IOC_IRQEN = 1 << 12
     ERR_IRQEN = 1 << 14
-    IRQTHRESHOLD = 0xFF << 16
-
-    @classmethod
-    def threshold(cls, updates):
-        """The field of the interrupt threshold. Written 1 to 255 it also loads the counter; 0 leaves both; RULES.md 5.7."""
-        return cls(_number(updates, 0xFF) << 16)
 
 
 class Status(enum.IntFlag):
@@ -114,7 +108,6 @@ class Status(enum.IntFlag):
     IOC_IRQ = 1 << 12
     ERR_IRQ = 1 << 14
     ERRORS = 0x770
-    IRQTHRESHOLDSTS = 0xFF << 16
 
 
 class Event(enum.IntEnum):
@@ -191,9 +184,9 @@ _Clock = _structure("_Clock", *_CLOCK_FIELDS)
 _Clocked = _structure("_Clocked", "answer", "count", "lowest")
 
 # As BELIKUMBA_INTERFACE of include/belikumba.h, which says when it rises: keep it beside words that are stored.
-INTERFACE = 3
+INTERFACE = 2
 
-_ENGINE_WORDS = 24
+_ENGINE_WORDS = 22
 _MONITOR_WORDS = 14
 
 
@@ -297,10 +290,10 @@ def judge(memory, windows, start, bytes):
 
 
 class Engine:
-    """An engine; RULES.md 5 and 6. `words` are its 24 numbers, as include/belikumba.h has them; a fresh engine if not given."""
+    """An engine; RULES.md 5 and 6. `words` are its 22 numbers, as include/belikumba.h has them."""
 
     def __init__(self, width=4, beats=16, words=None):
-        given = [width, beats] + [0] * (_ENGINE_WORDS - 4) + [1, 1] if words is None else list(words)
+        given = [width, beats] + [0] * (_ENGINE_WORDS - 2) if words is None else list(words)
         if len(given) != _ENGINE_WORDS:
             raise ValueError(f"an engine has {_ENGINE_WORDS} words, not {len(given)}")
         self._words = (_WORD * _ENGINE_WORDS)(*(_number(word) for word in given))
@@ -318,16 +311,6 @@ class Engine:
         answer = _library.belikumba_write(self._words, _number(offset), _number(value))
         if answer != Answer.DONE:
             raise Refused(answer)
-
-    @property
-    def threshold(self):
-        """How many good updates of a chain set IOC_IRQ once; CDMACR bits 23..16. A write of CDMACR changes it."""
-        return self.read(Register.CDMACR) >> 16 & 0xFF
-
-    @property
-    def counter(self):
-        """How many good updates are still to come to set IOC_IRQ; CDMASR bits 23..16."""
-        return self.read(Register.CDMASR) >> 16 & 0xFF
 
     @property
     def interrupt_line(self):

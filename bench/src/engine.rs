@@ -4,9 +4,10 @@ use crate::race::{print_heading, print_row, race, wanted};
 use independent::engine::Engine;
 use independent::memory::{Window, LONGEST};
 use shared::interface as library;
+use shared::interface::ENGINE_WORDS;
 use shared::record::descriptor;
 use shared::registers::{BTT, CDMACR, CDMASR, CHAIN, CURDESC, DA, SA, TAILDESC};
-use shared::words::{fresh, of_engine, EngineWords, IDLE, PHASE};
+use shared::words::{of_engine, EngineWords, IDLE, PHASE};
 use std::hint::black_box;
 
 /// What an engine works on. The windows are here as the independent engine and as the C library take them.
@@ -42,13 +43,14 @@ trait Side: Copy {
 #[derive(Clone, Copy)]
 struct Proved;
 
-// SAFETY, in each call: by include/belikumba.h, whatever the numbers are, a call reaches the 24 words of the engine
+// SAFETY, in each call: by include/belikumba.h, whatever the numbers are, a call reaches the 22 words of the engine
 // and the lent bytes and windows alone, and keeps none of them.
 impl Side for Proved {
     type Engine = EngineWords;
 
     fn start(self, width: u32, beats: u32, writes: &[(u32, u32)]) -> EngineWords {
-        let mut engine = fresh(width, beats);
+        let mut engine = [0; ENGINE_WORDS];
+        (engine[0], engine[1]) = (width, beats);
         for &(offset, value) in writes {
             let answer = unsafe { library::belikumba_write(engine.as_mut_ptr(), offset, value) };
             assert_eq!(answer, 0, "a write of this bench is refused");

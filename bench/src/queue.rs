@@ -4,8 +4,9 @@
 use crate::race::{print_heading, print_row, race, wanted};
 use independent::memory::{good_bytes, LONGEST};
 use shared::interface as library;
+use shared::interface::ENGINE_WORDS;
 use shared::registers::{BTT, CDMACR, DA, SA};
-use shared::words::{fresh, EngineWords, IDLE, PHASE};
+use shared::words::{EngineWords, IDLE, PHASE};
 use std::hint::black_box;
 
 const KEY_HOLE_READ: u32 = 1 << 4;
@@ -27,7 +28,8 @@ struct Job {
 // SAFETY, in each call: by include/belikumba.h, whatever the numbers are, a call reaches the words of the engine and the lent
 // bytes alone, and keeps none of them.
 fn started(job: &Job) -> EngineWords {
-    let mut engine = fresh(job.width, job.beats);
+    let mut engine = [0; ENGINE_WORDS];
+    (engine[0], engine[1]) = (job.width, job.beats);
     let writes = [(CDMACR, job.control), (SA, job.source), (DA, job.destination), (BTT, job.total)];
     for (offset, value) in writes {
         let answer = unsafe { library::belikumba_write(engine.as_mut_ptr(), offset, value) };

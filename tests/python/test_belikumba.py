@@ -260,15 +260,15 @@ class Engines(Cases):
         self.assertEqual(engine.read(Register.CDMASR) & Status.ERRORS, Status.DMAINTERR)
         self.refused(Answer.ERROR_SET, engine.write, Register.SA, 0)
         self.refused(Answer.SETTINGS, Engine(width=3).read, 0)
-        self.refused(Answer.STATE, Engine(words=[4, 16, 2] + [0] * 19 + [1, 1]).read, 0)
-        self.refused(Answer.STATE, getattr, Engine(words=[4, 16, 2] + [0] * 19 + [1, 1]), "interrupt_line")
+        self.refused(Answer.STATE, Engine(words=[4, 16, 2] + [0] * 19).read, 0)
+        self.refused(Answer.STATE, getattr, Engine(words=[4, 16, 2] + [0] * 19), "interrupt_line")
 
     def test_key_hole(self):
         memory = bytearray(range(256))
         engine = Engine()
         engine.write(Register.CDMACR, Control.KEY_HOLE_READ)
         self.assertEqual(engine.read(Register.CDMACR), 0x00010012)
-        self.assertEqual(engine.words[20:22], (1, 0))
+        self.assertEqual(engine.words[20:], (1, 0))
         engine.write(Register.SA, 8)
         engine.write(Register.DA, 101)
         engine.write(Register.BTT, 68)  # the example of RULES.md 6.10
@@ -288,88 +288,6 @@ class Engines(Cases):
         self.assertEqual(engine.read(Register.CDMASR) & Status.ERRORS, Status.DMAINTERR)
         engine.write(Register.CDMACR, Control.RESET)
         self.assertEqual(engine.words, Engine().words)
-
-    def chain(self, control, descriptors):
-        """An engine that starts a chain of so many descriptors, 64 bytes apart from 64 on, and its memory."""
-        memory = bytearray(4096)
-        for at in range(64, 64 * (descriptors + 1), 64):
-            Descriptor(next=at + 64, source=2048, destination=3072, control=4).store(memory, at)
-        engine = Engine()
-        engine.write(Register.CDMACR, Control.SGMODE | control)
-        engine.write(Register.CURDESC, 64)
-        engine.write(Register.TAILDESC, 64 * descriptors)
-        return engine, memory
-
-    def after_updates(self, engine, memory, descriptors):
-        """The counter and IOC_IRQ after each of so many descriptors, of three steps each; IOC_IRQ is then cleared."""
-        seen = []
-        for _ in range(descriptors):
-            self.assertEqual(engine.run(memory, most=3), 3)
-            seen.append((engine.counter, bool(engine.read(Register.CDMASR) & Status.IOC_IRQ)))
-            engine.write(Register.CDMASR, Status.IOC_IRQ)
-        return seen
-
-    def test_threshold(self):  # the example of RULES.md 5.7: a chain of four, and one of three
-        self.assertEqual((Engine().threshold, Engine().counter, Engine().words[20:]), (1, 1, (0, 0, 1, 1)))
-        engine, memory = self.chain(Control.threshold(3), 7)
-        engine.write(Register.TAILDESC, 64 * 4)
-        self.assertEqual(engine.read(Register.CDMACR), 0x0003000A)
-        self.assertEqual(engine.read(Register.CDMASR), 0x00030008)
-        self.assertEqual(self.after_updates(engine, memory, 4), [(2, False), (1, False), (3, True), (2, False)])
-        self.assertEqual(engine.read(Register.CDMASR), 0x0002000A)
-        engine.write(Register.TAILDESC, 64 * 7)  # the start does not load the counter
-        self.assertEqual((engine.threshold, engine.counter, engine.words[22:]), (3, 2, (3, 2)))
-        self.assertEqual(self.after_updates(engine, memory, 3), [(1, False), (3, True), (2, False)])
-
-    def test_threshold_one(self):  # each good update
-        engine, memory = self.chain(0, 3)
-        self.assertEqual(self.after_updates(engine, memory, 3), [(1, True)] * 3)
-
-    def test_threshold_written(self):  # while busy
-        engine, memory = self.chain(Control.threshold(255), 3)
-        self.assertEqual(self.after_updates(engine, memory, 1), [(254, False)])
-        engine.write(Register.CDMACR, Control.SGMODE | Control.threshold(0))
-        self.assertEqual((engine.threshold, engine.counter), (255, 254))
-        engine.write(Register.CDMACR, engine.read(Register.CDMACR) | Control.IOC_IRQEN)  # the same value loads the counter
-        self.assertEqual((engine.threshold, engine.counter), (255, 255))
-        self.assertEqual(engine.read(Register.CDMACR), 0x00FF100A)
-        self.refused(Answer.BUSY, engine.write, Register.CDMACR, Control.threshold(9))  # SGMode would change
-        self.assertEqual((engine.threshold, engine.counter), (255, 255))
-        engine.write(Register.CDMACR, Control.SGMODE | Control.IOC_IRQEN | Control.threshold(2))
-        self.assertEqual(engine.run(memory), 6)
-        self.assertEqual(engine.read(Register.CDMASR), 0x0002100A)
-        self.assertTrue(engine.interrupt_line)
-        engine.write(Register.CDMACR, Control.RESET | Control.threshold(9))
-        self.assertEqual(engine.words, Engine().words)
-
-    def test_threshold_after_error(self):  # the counter stays, and may be loaded with an error bit set
-        engine, memory = self.chain(Control.threshold(3), 3)
-        self.assertEqual(engine.run(memory, most=3), 3)
-        self.assertEqual(engine.run(memory, windows=[(2050, 1)]), 3)  # fetch, fault, update
-        self.assertEqual(engine.read(Register.CDMASR), 0x0002402A)
-        engine.write(Register.CDMACR, Control.SGMODE | Control.threshold(5))
-        self.assertEqual(engine.read(Register.CDMASR), 0x0005402A)
-
-    def test_threshold_in_simple_mode(self):
-        engine, memory = Engine(), bytearray(64)
-        engine.write(Register.CDMACR, Control.threshold(4))
-        for _ in range(2):
-            engine.write(Register.BTT, 8)
-            self.assertEqual(engine.run(memory), 1)
-            self.assertEqual(engine.read(Register.CDMASR), 0x0004100A)
-            engine.write(Register.CDMASR, Status.IOC_IRQ)
-
-    def test_threshold_words(self):  # 1 to the threshold, and that to 255
-        def engine(threshold, counter):
-            return Engine(words=[4, 16] + [0] * 20 + [threshold, counter])
-
-        for threshold, counter in ((1, 1), (3, 1), (3, 3), (255, 255)):
-            self.assertEqual((engine(threshold, counter).threshold, engine(threshold, counter).counter), (threshold, counter))
-        for threshold, counter in ((0, 0), (0, 1), (1, 0), (3, 4), (256, 1), (256, 256), (0xFFFFFFFF, 1)):
-            self.refused(Answer.STATE, engine(threshold, counter).read, 0)
-        self.assertRaises(ValueError, Engine, words=[4, 16] + [0] * 20)  # the words of interface 2
-        for updates in (-1, 256):
-            self.assertRaises(OverflowError, Control.threshold, updates)
 
     def test_limits(self):
         engine = Engine()

@@ -26,8 +26,8 @@ rising (suc n) a = a ∷ rising n (suc a)
 abbrev pub engine : Bool → Phase → Engine
 engine chain phase = record {
   settings = record { width = 4; beats = 16 };
-  control = record { sgmode = chain; keyholeread = false; keyholewrite = false; iocen = true; erren = true; threshold = 1 };
-  status = record { fault = Clear; ioc = true; err = false; counter = 1 };
+  control = record { sgmode = chain; keyholeread = false; keyholewrite = false; iocen = true; erren = true };
+  status = record { fault = Clear; ioc = true; err = false };
   pointers = record { current = 0; tail = 0; next = 0; heldnext = 0 };
   simple = record { sa = 3; da = 100; btt = 0 };
   phase = phase;

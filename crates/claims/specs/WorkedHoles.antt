@@ -13,7 +13,7 @@ use Rattle.claims.specs.Worked.{rising, engine, elsewhere, joins, descriptor}
 -- the engine of specs/Worked.antt, with these key hole bits and with SA and DA
 abbrev pub fixed_engine : Bool → Phase → Bool → Bool → ℕ → ℕ → Engine
 fixed_engine chain phase reads writes sa da =
-    with_simple (with_control (engine chain phase) (record { sgmode = chain; keyholeread = reads; keyholewrite = writes; iocen = true; erren = true; threshold = 1 }))
+    with_simple (with_control (engine chain phase) (record { sgmode = chain; keyholeread = reads; keyholewrite = writes; iocen = true; erren = true }))
     (record { sa = sa; da = da; btt = 0 })
 
 -- a word, n times

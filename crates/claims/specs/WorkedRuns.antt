@@ -35,8 +35,8 @@ beside = 265 ∷ 7 ∷ []
 abbrev pub finished : Engine
 finished = record {
   settings = record { width = 4; beats = 16 };
-  control = record { sgmode = true; keyholeread = false; keyholewrite = false; iocen = true; erren = true; threshold = 1 };
-  status = record { fault = Clear; ioc = true; err = false; counter = 1 };
+  control = record { sgmode = true; keyholeread = false; keyholewrite = false; iocen = true; erren = true };
+  status = record { fault = Clear; ioc = true; err = false };
   pointers = record { current = 64; tail = 64; next = 128; heldnext = 128 };
   simple = record { sa = 3; da = 100; btt = 0 };
   phase = Idle;

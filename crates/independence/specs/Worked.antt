@@ -22,16 +22,16 @@ started current tail = (write_of (write_of (engine true Idle) 0x08 current).engi
 
 -- IOC_Irq alone, and with a slave error
 abbrev pub complete : Status
-complete = record { fault = Clear; ioc = true; err = false; counter = 1 }
+complete = record { fault = Clear; ioc = true; err = false }
 
 abbrev pub faulty : Status
-faulty = record { fault = DmaSlvErr; ioc = true; err = true; counter = 1 }
+faulty = record { fault = DmaSlvErr; ioc = true; err = true }
 
 -- the same idle at its tail
 abbrev pub ended : Status → ℕ → ℕ → ℕ → Engine
 ended status tail next held = record {
   settings = record { width = 4; beats = 16 };
-  control = record { sgmode = true; keyholeread = false; keyholewrite = false; iocen = true; erren = true; threshold = 1 };
+  control = record { sgmode = true; keyholeread = false; keyholewrite = false; iocen = true; erren = true };
   status = status;
   pointers = record { current = tail; tail = tail; next = next; heldnext = held };
   simple = record { sa = 3; da = 100; btt = 0 };

@@ -10,7 +10,7 @@ use spelling::moves;
 use words::engine_words::{settings, transfer};
 
 // Whether a step is not refused, and the engine is in the midst of such a transfer.
-fn goes_on(words: &[u32; 24], size: usize, windows: usize) -> bool
+fn goes_on(words: &[u32; 22], size: usize, windows: usize) -> bool
     ensures { result ≡ goes_on_of words.now size windows }
 {
     legal(settings(words))
@@ -22,7 +22,7 @@ fn goes_on(words: &[u32; 24], size: usize, windows: usize) -> bool
 }
 
 // The burst of a step that changes no word but word 19, or nothing done.
-pub fn move_on_words(words: &mut [u32; 24], memory: &mut [u8], windows: &[u32]) -> MovedOn
+pub fn move_on_words(words: &mut [u32; 22], memory: &mut [u8], windows: &[u32]) -> MovedOn
     ensures { MovesWords words.old memory.old windows.now result words.new memory.new }
 {
     if !goes_on(words, memory.len(), windows.len() / 2) {

@@ -56,7 +56,7 @@ pub struct WalkedWords {
 }
 
 // The first answer that fits, in the order 1, 2, 6, 9, or done.
-fn judge_words(words: &[u32; 24], size: usize, windows: usize) -> Answer
+fn judge_words(words: &[u32; 22], size: usize, windows: usize) -> Answer
     ensures { number_of result ≡ refusal_of (engine_of words.now) size windows }
 {
     if !legal(settings(words)) {
@@ -75,7 +75,7 @@ fn judge_words(words: &[u32; 24], size: usize, windows: usize) -> Answer
 }
 
 // Up to `most` steps of the engine that the words hold: the one place from which the engine is read, walks and is stored.
-fn walk_words(words: &mut [u32; 24], memory: &mut [u8], windows: &[u32], most: u32) -> WalkedWords
+fn walk_words(words: &mut [u32; 22], memory: &mut [u8], windows: &[u32], most: u32) -> WalkedWords
     ensures { walk_words_seen result words.new memory.new ≡ walk_words_of most words.old memory.old windows.now }
 {
     let answer = judge_words(words, memory.len(), windows.len() / 2);
@@ -99,7 +99,7 @@ fn walk_words(words: &mut [u32; 24], memory: &mut [u8], windows: &[u32], most: u
 }
 
 // Any step, as a walk of one.
-fn whole_step(words: &mut [u32; 24], memory: &mut [u8], windows: &[u32]) -> SteppedForC
+fn whole_step(words: &mut [u32; 22], memory: &mut [u8], windows: &[u32]) -> SteppedForC
     ensures { step_words_seen result words.new memory.new ≡ step_words_of words.old memory.old windows.now }
 {
     let walked = walk_words(words, memory, windows, 1);
@@ -109,7 +109,7 @@ fn whole_step(words: &mut [u32; 24], memory: &mut [u8], windows: &[u32]) -> Step
 
 #[unsafe(no_mangle)]
 pub extern "C" fn belikumba_step(
-    words: &mut [u32; 24],
+    words: &mut [u32; 22],
     memory: &mut [u8],
     windows: &[u32],
 ) -> SteppedForC
@@ -124,7 +124,7 @@ pub extern "C" fn belikumba_step(
 
 #[unsafe(no_mangle)]
 pub extern "C" fn belikumba_run(
-    words: &mut [u32; 24],
+    words: &mut [u32; 22],
     memory: &mut [u8],
     windows: &[u32],
     most: u16,

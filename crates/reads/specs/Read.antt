@@ -1,5 +1,5 @@
 -- RULES.md, "Registers": what a read gives.
-use Rattle.std.specs.Prelude.{ℕ, ◌+◌, ◌*◌, ◌^◌, Bool, not, List, [], ◌∷◌, eqb}
+use Rattle.std.specs.Prelude.{ℕ, ◌+◌, ◌^◌, Bool, not, List, [], ◌∷◌, eqb}
 use Rattle.kit.specs.Choice.{when}
 use Rattle.kit.specs.Answer.{number_of}
 use Rattle.kit.specs.Settings.{among, legal_of}
@@ -15,18 +15,18 @@ use Rattle.state.specs.Bits.{tail_pntr_en, sg_mode, key_hole_read, key_hole_writ
 abbrev pub bit_if : Bool → ℕ → ℕ
 bit_if set value = when set value 0
 
--- CDMACR: bit 1 reads 1; bits 3, 4, 5, 12 and 14 are kept; bits 23..16 are the threshold
+-- CDMACR: bit 1 and bits 23..16 read 1, each as a field; bits 3, 4, 5, 12 and 14 are kept
 abbrev pub control_of : Control → ℕ
 control_of c =
-    c.threshold * 2 ^ irq_threshold + 2 ^ tail_pntr_en + bit_if c.sgmode (2 ^ sg_mode) + bit_if c.keyholeread (2 ^ key_hole_read)
+    2 ^ irq_threshold + 2 ^ tail_pntr_en + bit_if c.sgmode (2 ^ sg_mode) + bit_if c.keyholeread (2 ^ key_hole_read)
     + bit_if c.keyholewrite (2 ^ key_hole_write)
     + bit_if c.iocen (2 ^ ioc_irq_en)
     + bit_if c.erren (2 ^ err_irq_en)
 
--- CDMASR: bit 3 reads 1; bit 1 Idle, the error bits, 12 IOC_Irq, 14 Err_Irq; bits 23..16 are the counter
+-- CDMASR: bit 3 and bits 23..16 read 1; bit 1 Idle, the error bits, 12 IOC_Irq, 14 Err_Irq
 abbrev pub status_of : Status → Phase → ℕ
 status_of t p =
-    t.counter * 2 ^ irq_threshold_sts + 2 ^ sg_incld + bit_if (not (busy_of p)) (2 ^ idle) + bit_if (error_set_of t.fault) (2 ^ error_bit_of t.fault)
+    2 ^ irq_threshold_sts + 2 ^ sg_incld + bit_if (not (busy_of p)) (2 ^ idle) + bit_if (error_set_of t.fault) (2 ^ error_bit_of t.fault)
     + bit_if t.ioc (2 ^ ioc_irq)
     + bit_if t.err (2 ^ err_irq)
 

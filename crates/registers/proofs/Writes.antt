@@ -5,25 +5,24 @@ use mathlib.Core.Bool.{Bool, true, false, not}
 use native.Mathlib.Nat.{mul-mod_left, mod-lt}
 use native.Mathlib.Omega.{arith}
 use lib.Dec.{eqb, leb}
-use mathlib.Core.Logic.{◌⊎◌, inl, inr}
-use borrow.Author.Tests.{not-false, eqb-true, eqb-false, le-leb, leb-true}
+use borrow.Author.Tests.{not-false, eqb-true, le-leb, leb-true}
 use Rattle.kit.specs.Choice.{both, either}
 use Rattle.kit.specs.Limits.{most_bytes}
 use Rattle.kit.specs.Settings.{among, legal_of}
-use Rattle.kit.proofs.Choice.{cases, decide, never, neither}
+use Rattle.kit.proofs.Choice.{cases, never, neither}
 use Rattle.state.specs.declared.descriptor.Start.{Start}
 use Rattle.state.specs.declared.descriptor.Start.TheVariants.{Moves, Internal}
 use Rattle.state.specs.declared.engine.Control.{Control}
 use Rattle.state.specs.declared.engine.Engine.{Engine}
 use Rattle.state.specs.declared.engine.Phase.{Phase}
 use Rattle.state.specs.declared.engine.Phase.TheVariants.{Idle, Fetch, Move, Update}
-use Rattle.state.specs.State.{busy_of, error_set_of, counter_fits, phase_fits, well_formed_of, with_btt}
-use Rattle.state.specs.Bits.{bit, pointer, reset, threshold_in, alignment}
+use Rattle.state.specs.State.{busy_of, error_set_of, phase_fits, well_formed_of, with_btt}
+use Rattle.state.specs.Bits.{bit, pointer, reset, alignment}
 use Rattle.state.specs.Descriptor.{count_of, start_of}
 use Rattle.state.proofs.Start.{start_fits}
-use Rattle.state.proofs.WellFormed.{WellFormed, Parts, well-formed, parts, joined, aligned-test, counter-fits-test, not-both, fresh-well-formed}
+use Rattle.state.proofs.WellFormed.{WellFormed, Parts, well-formed, parts, joined, aligned-test, not-both, fresh-well-formed}
 use Rattle.reads.specs.Read.{upper_halves}
-use Rattle.registers.specs.Write.{AfterWrite, differ, threshold_by, control_from, mode_differs, guard_of, write_control_of, write_tail_of, started_of, write_count_of, register_written_of, write_of}
+use Rattle.registers.specs.Write.{AfterWrite, differ, control_from, mode_differs, guard_of, write_control_of, write_tail_of, started_of, write_count_of, register_written_of, write_of}
 use Rattle.registers.specs.Changes.{Free, Change, resets, controls, clears, points, extends, fetches, sources, destinations, moves, fails, nothing, Write, refused, changed}
 use Rattle.registers.specs.Claims.{Words}
 
@@ -45,7 +44,7 @@ module _ (s : Engine) (offset v : ℕ) where
   control : offset ≡ 0x00 → W (write_control_of s v)
   control o =
       cases W (bit reset v) (λ e. changed (resets o e))
-      (λ e. cases W (both (busy_of s.phase) (mode_differs (control_from v s.control) s.control)) (λ _. refused 4 (omega arith)) (λ b. changed (controls o e b)))
+      (λ e. cases W (both (busy_of s.phase) (mode_differs (control_from v) s.control)) (λ _. refused 4 (omega arith)) (λ b. changed (controls o e b)))
 
   tail : offset ≡ 0x10 → W (write_tail_of s v)
   tail o =
@@ -162,55 +161,39 @@ module _ (s : Engine) (offset v : ℕ) (w : Words s) (e : well_formed_of s ≡ t
   kept : leb (count_of v) most_bytes ≡ true
   kept = le-leb (count_of v) most_bytes (omega (arith, mod-lt v {m = 2 ^ 23} (omega arith)))
 
-  -- 0 leaves threshold and counter, and any other field is both of them
-  set-fits : counter_fits (threshold_by v s.control.threshold) (threshold_by v s.status.counter) ≡ true
-  set-fits = go (decide (eqb (threshold_in v) 0))
-    where
-      go : (eqb (threshold_in v) 0 ≡ true) ⊎ (eqb (threshold_in v) 0 ≡ false)
-          → counter_fits (threshold_by v s.control.threshold) (threshold_by v s.status.counter) ≡ true
-      go (inl e) = rw e p.counter
-      go (inr e) =
-          rw e
-          (counter-fits-test (threshold_in v) (threshold_in v)
-          (omega (arith, eqb-false (threshold_in v) 0 e)) (omega arith) (omega (arith, mod-lt (v / 2 ^ 16) {m = 2 ^ 8} (omega arith))))
-
   parts_stay : {t : Engine} → Change s offset v t → Parts t
   parts_stay (resets _ _) = parts _ (fresh-well-formed s.settings)
   parts_stay (controls _ _ d) =
-      record { pointers = p.pointers; count = p.count; error = p.error; phase = mode-fits s.phase (control_from v s.control) s.control d p.phase; counter = set-fits }
-  parts_stay (clears _) = record { pointers = p.pointers; count = p.count; error = p.error; phase = p.phase; counter = p.counter }
+      record { pointers = p.pointers; count = p.count; error = p.error; phase = mode-fits s.phase (control_from v) s.control d p.phase }
+  parts_stay (clears _) = record { pointers = p.pointers; count = p.count; error = p.error; phase = p.phase }
   parts_stay (points _ _) = record {
     pointers = aligned-test (pointer v) s.pointers.tail (pointer v) s.pointers.heldnext at h.tail-aligned at h.held-aligned;
     count = p.count;
     error = p.error;
     phase = p.phase;
-    counter = p.counter;
   }
   parts_stay (extends _ _ _ _) = record {
     pointers = aligned-test s.pointers.current (pointer v) s.pointers.next s.pointers.heldnext h.current-aligned at h.next-aligned h.held-aligned;
     count = p.count;
     error = p.error;
     phase = p.phase;
-    counter = p.counter;
   }
   parts_stay (fetches _ m f) = record {
     pointers = aligned-test s.pointers.next (pointer v) s.pointers.next s.pointers.heldnext h.next-aligned at h.next-aligned h.held-aligned;
     count = p.count;
     error = no-error f.no-error;
     phase = m;
-    counter = p.counter;
   }
-  parts_stay (sources _ _) = record { pointers = p.pointers; count = p.count; error = p.error; phase = p.phase; counter = p.counter }
-  parts_stay (destinations _ _) = record { pointers = p.pointers; count = p.count; error = p.error; phase = p.phase; counter = p.counter }
+  parts_stay (sources _ _) = record { pointers = p.pointers; count = p.count; error = p.error; phase = p.phase }
+  parts_stay (destinations _ _) = record { pointers = p.pointers; count = p.count; error = p.error; phase = p.phase }
   parts_stay (moves _ _ f t x) = record {
     pointers = p.pointers;
     count = kept;
     error = no-error f.no-error;
     phase = start_fits s.settings.width s.control s.simple.sa s.simple.da (count_of v) t x w.source-word w.destination-word (leb-true _ _ kept);
-    counter = p.counter;
   }
   parts_stay (fails _ _ f _) =
-      record { pointers = p.pointers; count = kept; error = not-both true (busy_of s.phase) (λ _. f.idle); phase = p.phase; counter = p.counter }
+      record { pointers = p.pointers; count = kept; error = not-both true (busy_of s.phase) (λ _. f.idle); phase = p.phase }
   parts_stay (nothing _) = p
 
 -- a write keeps the state well formed, also where it is refused

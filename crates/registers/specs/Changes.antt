@@ -7,11 +7,11 @@ use Rattle.state.specs.declared.engine.Engine.{Engine}
 use Rattle.state.specs.declared.engine.Transfer.{Transfer}
 use Rattle.state.specs.declared.engine.ErrorBit.TheVariants.{DmaIntErr}
 use Rattle.state.specs.declared.engine.Phase.TheVariants.{Fetch, Move}
-use Rattle.state.specs.State.{fresh_of, busy_of, error_set_of, with_status, with_fault, with_err, with_current, with_tail, with_next, with_sa, with_da, with_btt, with_phase}
+use Rattle.state.specs.State.{fresh_of, busy_of, error_set_of, with_control, with_status, with_fault, with_err, with_current, with_tail, with_next, with_sa, with_da, with_btt, with_phase}
 use Rattle.state.specs.Bits.{bit, pointer, reset}
 use Rattle.state.specs.Descriptor.{count_of, start_of}
 use Rattle.reads.specs.Read.{upper_halves}
-use Rattle.registers.specs.Write.{AfterWrite, done, ignored, control_from, controlled_of, mode_differs, cleared_of}
+use Rattle.registers.specs.Write.{AfterWrite, done, ignored, control_from, mode_differs, cleared_of}
 
 -- no error bit is set, and the engine is idle
 pub record Free (s : Engine) : Type 0 where
@@ -21,8 +21,8 @@ pub record Free (s : Engine) : Type 0 where
 -- what a write of v makes of a state: the register, what held before, and the state after
 pub data Change (s : Engine) (offset v : ℕ) : Engine → Type 0 where
   resets : offset ≡ 0x00 → bit reset v ≡ true → Change s offset v (fresh_of s.settings)
-  controls : offset ≡ 0x00 → bit reset v ≡ false → both (busy_of s.phase) (mode_differs (control_from v s.control) s.control) ≡ false
-      → Change s offset v (controlled_of s v)
+  controls : offset ≡ 0x00 → bit reset v ≡ false → both (busy_of s.phase) (mode_differs (control_from v) s.control) ≡ false
+      → Change s offset v (with_control s (control_from v))
   clears : offset ≡ 0x04 → Change s offset v (with_status s (cleared_of s.status v))
   points : offset ≡ 0x08 → Free s → Change s offset v (with_next (with_current s (pointer v)) (pointer v))
   extends : offset ≡ 0x10 → s.control.sgmode ≡ true → error_set_of s.status.fault ≡ false → busy_of s.phase ≡ true

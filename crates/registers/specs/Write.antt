@@ -16,7 +16,7 @@ use Rattle.state.specs.declared.engine.Phase.{Phase}
 use Rattle.state.specs.declared.engine.Phase.TheVariants.{Fetch, Move}
 use Rattle.registers.specs.declared.write.Written.{Written}
 use Rattle.state.specs.State.{fresh_of, busy_of, error_set_of, well_formed_of, with_control, with_status, with_current, with_tail, with_next, with_sa, with_da, with_btt, with_phase}
-use Rattle.state.specs.Bits.{bit, pointer, reset, sg_mode, key_hole_read, key_hole_write, ioc_irq_en, err_irq_en, threshold_in, ioc_irq, err_irq}
+use Rattle.state.specs.Bits.{bit, pointer, reset, sg_mode, key_hole_read, key_hole_write, ioc_irq_en, err_irq_en, ioc_irq, err_irq}
 use Rattle.state.specs.Descriptor.{count_of, start_of}
 use Rattle.reads.specs.Read.{upper_halves}
 
@@ -44,29 +44,15 @@ differ a b = when a (not b) b
 abbrev pub guard_of : Engine → Bool → Engine → AfterWrite
 guard_of s barred next = when (error_set_of s.status.fault) (ignored 5 s) (when barred (ignored 4 s) (done next))
 
--- what a value makes of the threshold, and of the counter: 0 in bits 23..16 leaves them, 1 to 255 sets the threshold and reloads
--- the counter with it
-abbrev pub threshold_by : ℕ → ℕ → ℕ
-threshold_by v old = when (eqb (threshold_in v) 0) old (threshold_in v)
-
--- what CDMACR keeps of a value
-abbrev pub control_from : ℕ → Control → Control
-control_from v old = record {
+-- CDMACR's kept bits in a value
+abbrev pub control_from : ℕ → Control
+control_from v = record {
   sgmode = bit sg_mode v;
   keyholeread = bit key_hole_read v;
   keyholewrite = bit key_hole_write v;
   iocen = bit ioc_irq_en v;
   erren = bit err_irq_en v;
-  threshold = threshold_by v old.threshold;
 }
-
--- CDMASR's counter after it
-abbrev pub reloaded_of : ℕ → Status → Status
-reloaded_of v t = record { fault = t.fault; ioc = t.ioc; err = t.err; counter = threshold_by v t.counter }
-
--- the state after CDMACR took a value
-abbrev pub controlled_of : Engine → ℕ → Engine
-controlled_of s v = with_status (with_control s (control_from v s.control)) (reloaded_of v s.status)
 
 -- one of those that an engine keeps while busy differs: SGMode and the key hole bits
 abbrev pub mode_differs : Control → Control → Bool
@@ -77,11 +63,11 @@ mode_differs c d =
 abbrev pub write_control_of : Engine → ℕ → AfterWrite
 write_control_of s v =
     when (bit reset v) (done (fresh_of s.settings))
-    (when (both (busy_of s.phase) (mode_differs (control_from v s.control) s.control)) (ignored 4 s) (done (controlled_of s v)))
+    (when (both (busy_of s.phase) (mode_differs (control_from v) s.control)) (ignored 4 s) (done (with_control s (control_from v))))
 
 -- CDMASR: writing 1 clears bits 12 and 14
 abbrev pub cleared_of : Status → ℕ → Status
-cleared_of t v = record { fault = t.fault; ioc = both (not (bit ioc_irq v)) t.ioc; err = both (not (bit err_irq v)) t.err; counter = t.counter }
+cleared_of t v = record { fault = t.fault; ioc = both (not (bit ioc_irq v)) t.ioc; err = both (not (bit err_irq v)) t.err }
 
 abbrev pub write_status_of : Engine → ℕ → AfterWrite
 write_status_of s v = done (with_status s (cleared_of s.status v))
@@ -114,7 +100,7 @@ started_phase Internal p = p
 
 abbrev pub started_status : Start → Status → Status
 started_status (Moves t) x = x
-started_status Internal x = record { fault = DmaIntErr; ioc = x.ioc; err = true; counter = x.counter }
+started_status Internal x = record { fault = DmaIntErr; ioc = x.ioc; err = true }
 
 abbrev pub started_of : Engine → Start → Engine
 started_of s start = with_phase (with_status s (started_status start s.status)) (started_phase start s.phase)

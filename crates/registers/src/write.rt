@@ -6,14 +6,13 @@ ghost use Rattle.kit.specs.Choice.{when, both as both_of};
 ghost use Rattle.state.specs.declared.descriptor.Start.TheVariants.{Internal};
 ghost use Rattle.state.specs.declared.engine.Phase.TheVariants.{Fetch, Move};
 ghost use Rattle.state.specs.State.{error_set_of};
-ghost use Rattle.registers.specs.Write.{done as done_of, ignored as ignored_of, differ as differ_of, built_of, threshold_by, control_from, reloaded_of, mode_differs, cleared_of, started_phase, started_status, write_control_of, write_status_of, write_current_of, write_tail_of, write_source_of, write_destination_of, write_count_of, register_written_of, write_of, write_seen};
+ghost use Rattle.registers.specs.Write.{done as done_of, ignored as ignored_of, differ as differ_of, built_of, control_from, mode_differs, cleared_of, started_phase, started_status, write_control_of, write_status_of, write_current_of, write_tail_of, write_source_of, write_destination_of, write_count_of, register_written_of, write_of, write_seen};
 
 use kit::answer::Answer;
 use kit::logic::{both, either};
 use kit::settings::{Settings, legal};
 use state::bits::{
     ERR_IRQ, ERR_IRQ_EN, IOC_IRQ, IOC_IRQ_EN, KEY_HOLE_READ, KEY_HOLE_WRITE, RESET, SG_MODE, bit,
-    threshold_in,
 };
 use state::descriptor::{Start, count, pointer, start_transfer};
 use state::engine::{
@@ -117,16 +116,8 @@ fn build(
     }
 }
 
-// What a CDMACR value makes of the threshold, and of the counter: 0 in its field leaves them.
-fn threshold_by(value: u32, old: u32) -> u32
-    ensures { result ≡ threshold_by value old }
-{
-    let set = threshold_in(value);
-    if set == 0 { old } else { set }
-}
-
-fn control_from(value: u32, old: Control) -> Control
-    ensures { result ≡ control_from value old }
+fn control_bits(value: u32) -> Control
+    ensures { result ≡ control_from value }
 {
     Control {
         sgmode: bit(value, SG_MODE),
@@ -134,16 +125,6 @@ fn control_from(value: u32, old: Control) -> Control
         keyholewrite: bit(value, KEY_HOLE_WRITE),
         iocen: bit(value, IOC_IRQ_EN),
         erren: bit(value, ERR_IRQ_EN),
-        threshold: threshold_by(value, old.threshold),
-    }
-}
-
-fn reload(value: u32, status: Status) -> Status
-    ensures { result ≡ reloaded_of value status }
-{
-    Status {
-        counter: threshold_by(value, status.counter),
-        ..status
     }
 }
 
@@ -166,7 +147,7 @@ fn write_control(engine: Engine, value: u32) -> Written
     if bit(value, RESET) {
         return done(fresh(engine.settings));
     }
-    let control = control_from(value, engine.control);
+    let control = control_bits(value);
     let phase = engine.phase;
     if both(busy(phase), mode_differs(control, engine.control)) {
         return ignored(Answer::Busy, engine);
@@ -176,7 +157,7 @@ fn write_control(engine: Engine, value: u32) -> Written
         Answer::Done,
         engine.settings,
         control,
-        reload(value, status),
+        status,
         engine.pointers,
         engine.simple,
         phase,

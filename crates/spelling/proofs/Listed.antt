@@ -19,11 +19,11 @@ use Rattle.state.specs.declared.engine.Outcome.TheVariants.{Complete, Internal, 
 use Rattle.state.specs.declared.engine.Phase.{Phase}
 use Rattle.state.specs.declared.engine.Phase.TheVariants.{Idle, Fetch, Move, Update}
 use Rattle.state.specs.declared.engine.Transfer.{Transfer}
-use Rattle.state.specs.State.{error_set_of, busy_of, aligned, transfer_fits, most_threshold, counter_fits, phase_fits, well_formed_of, with_phase}
+use Rattle.state.specs.State.{error_set_of, busy_of, aligned, transfer_fits, phase_fits, well_formed_of, with_phase}
 use Rattle.state.specs.Bits.{error_bit_of}
 use Rattle.state.proofs.WellFormed.{joined, parts, not-both}
 use Rattle.words.specs.EngineWords.{word, truth, phase_number_of, none, moving_of, words_of, error_bit_from, phase_from, pointers_from, transfer_from, engine_from, same_words}
-use Rattle.spelling.specs.Spelling.{whole_of, truths_of, bit_listed_of, phase_listed_of, still_of, spelled_of, aligned_of, counter_fits_of, inside_of, fits_of, phase_sound_of, sound_of}
+use Rattle.spelling.specs.Spelling.{whole_of, truths_of, bit_listed_of, phase_listed_of, still_of, spelled_of, aligned_of, inside_of, fits_of, phase_sound_of, sound_of}
 use Rattle.words.proofs.Same.{same-equal, same-itself}
 
 -- ---- tests joined
@@ -60,12 +60,6 @@ four true true true x = refl
 four true true false x = refl
 four true false v x = refl
 four false u v x = refl
-
--- and three
-three : (t u v : Bool) → (t && u && v) ≡ both t (both u v)
-three true true v = refl
-three true false v = refl
-three false u v = refl
 
 -- what holds of each number of a list holds of a number that is found on it
 first : (P : ℕ → Type 0) (n a : ℕ) → P a → eqb n a ≡ true → P n
@@ -135,7 +129,7 @@ transfer-kept w n l e = go (decide (eqb n 2))
 
 -- what is tested, by name
 record Tested (w : List ℕ) : Type 0 where
-  whole : length w ≡ 24
+  whole : length w ≡ 22
   sgmode : ltb (word w 2) 2 ≡ true
   iocen : ltb (word w 3) 2 ≡ true
   erren : ltb (word w 4) 2 ≡ true
@@ -154,7 +148,7 @@ tested w e =
     let t4 = apart _ (ltb (word w 4) 2) t6.0 in
     let t3 = apart (ltb (word w 2) 2) (ltb (word w 3) 2) t4.0 in
     record {
-      whole = eqb-true (length w) 24 truths.0;
+      whole = eqb-true (length w) 22 truths.0;
       sgmode = t3.0;
       iocen = t3.1;
       erren = t4.1;
@@ -181,9 +175,8 @@ kept w e =
     ∷ word w 8 ∷ word w 9 ∷ word w 10 ∷ word w 11 ∷ word w 12 ∷ word w 13 ∷ word w 14
     ∷ number i ∷ (transfer i).source ∷ (transfer i).destination ∷ (transfer i).total ∷ (transfer i).moved
     ∷ truth-kept (word w 20) tests.keyholeread i ∷ truth-kept (word w 21) tests.keyholewrite i
-    ∷ word w 22 ∷ word w 23
     ∷ [])
-    ∙ sym (listed-drop w 24 0 (sym tests.whole))
+    ∙ sym (listed-drop w 22 0 (sym tests.whole))
 
 truth-small : (b : Bool) → ltb (truth b) 2 ≡ true
 truth-small true = refl
@@ -233,10 +226,6 @@ fits-transfer w = four (ltb (word w 19) (word w 18)) (leb (word w 18) most_bytes
 
 aligned-pointers : (w : List ℕ) → aligned_of w ≡ aligned (pointers_from w)
 aligned-pointers w = four (eqb (word w 8 % 64) 0) (eqb (word w 9 % 64) 0) (eqb (word w 10 % 64) 0) (eqb (word w 11 % 64) 0)
-
--- and the counter's
-pub counter-fits : (w : List ℕ) → counter_fits_of w ≡ counter_fits (word w 22) (word w 23)
-counter-fits w = three (leb 1 (word w 23)) (leb (word w 23) (word w 22)) (leb (word w 22) most_threshold)
 
 clear-bit : (n : ℕ) → n ≡ 0 → error_bit_from n ≡ Clear
 unfolding error_bit_from
@@ -317,8 +306,7 @@ module _ (w : List ℕ) where
 -- words that are sound are spelled, and by a well-formed engine
 pub sound-spelled : (w : List ℕ) → sound_of w ≡ true → (spelled_of w ≡ true) × (well_formed_of (engine_from w) ≡ true)
 sound-spelled w e =
-    let counts = apart (whole_of w && truths_of w && aligned_of w && leb (word w 14) most_bytes && phase_sound_of w) (counter_fits_of w) e in
-    let all = apart (whole_of w && truths_of w && aligned_of w && leb (word w 14) most_bytes) (phase_sound_of w) counts.0 in
+    let all = apart (whole_of w && truths_of w && aligned_of w && leb (word w 14) most_bytes) (phase_sound_of w) e in
     let count = apart (whole_of w && truths_of w && aligned_of w) (leb (word w 14) most_bytes) all.0 in
     let pointers = apart (whole_of w && truths_of w) (aligned_of w) count.0 in
     let phase = phase-sound w all.1 in (
@@ -328,7 +316,6 @@ sound-spelled w e =
         count = count.1;
         error = phase.error;
         phase = phase.fits;
-        counter = sym (counter-fits w) ∙ counts.1;
       }),
     )
 
@@ -358,4 +345,4 @@ phase-words s (Update Decode) e f = join (join (clear_zero s.status.fault e) (ch
 pub sound-words : (s : Engine) → well_formed_of s ≡ true → sound_of (words_of s) ≡ true
 sound-words s e =
     let p = parts s e in
-    join (join (join (join (truths-spelled s) (aligned-pointers (words_of s) ∙ p.pointers)) p.count) (phase-words s s.phase p.error p.phase)) (counter-fits (words_of s) ∙ p.counter)
+    join (join (join (truths-spelled s) (aligned-pointers (words_of s) ∙ p.pointers)) p.count) (phase-words s s.phase p.error p.phase)

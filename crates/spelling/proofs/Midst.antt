@@ -1,5 +1,5 @@
 -- Words that are found to move are those of a well-formed engine in the midst of the transfer that they spell.
-use mathlib.Core.Path.{◌≡◌, sym, ap, ◌∙◌}
+use mathlib.Core.Path.{◌≡◌, refl, sym, ap, ◌∙◌}
 use Prim.Native.Nat.{ℕ}
 use mathlib.Core.Bool.{true, ◌&&◌}
 use mathlib.Core.List.{List}
@@ -13,7 +13,7 @@ use Rattle.state.specs.declared.engine.Phase.TheVariants.{Move}
 use Rattle.state.specs.State.{phase_fits, transfer_fits, well_formed_of, with_phase}
 use Rattle.state.proofs.WellFormed.{parts}
 use Rattle.words.specs.EngineWords.{word, words_of, phase_from, transfer_from, engine_from, engine_of}
-use Rattle.spelling.specs.Spelling.{whole_of, truths_of, aligned_of, counter_fits_of, fits_of, bit_listed_of, phase_listed_of, still_of, phase_sound_of, sound_of, settled_of, moves_of}
+use Rattle.spelling.specs.Spelling.{whole_of, truths_of, aligned_of, fits_of, bit_listed_of, phase_listed_of, still_of, phase_sound_of, sound_of, settled_of, moves_of}
 use Rattle.spelling.proofs.Listed.{apart, join, same_truth, kept, sound-spelled}
 use Rattle.spelling.proofs.Engines.{sound-engine}
 
@@ -24,21 +24,19 @@ moving-tests w two =
 
 moves-sound : (w : List ℕ) → moves_of w ≡ true → (sound_of w ≡ true) × (eqb (word w 15) 2 ≡ true)
 moves-sound w e =
-    let counts = apart (whole_of w && truths_of w && aligned_of w && settled_of w && fits_of w) (counter_fits_of w) e in
-    let all = apart (whole_of w && truths_of w && aligned_of w && settled_of w) (fits_of w) counts.0 in
+    let all = apart (whole_of w && truths_of w && aligned_of w && settled_of w) (fits_of w) e in
     let settled = apart (whole_of w && truths_of w && aligned_of w) (settled_of w) all.0 in
     let phase = apart (eqb (word w 5) 0 && leb (word w 14) most_bytes) (eqb (word w 15) 2) settled.1 in
     let count = apart (eqb (word w 5) 0) (leb (word w 14) most_bytes) phase.0 in
     let moves = moving-tests w (eqb-true (word w 15) 2 phase.1) ∙ join count.0 all.1 in
-    (join (join (join settled.0 count.1) moves) counts.1, phase.1)
+    (join (join settled.0 count.1) moves, phase.1)
 
 sound-moves : (w : List ℕ) → sound_of w ≡ true → eqb (word w 15) 2 ≡ true → moves_of w ≡ true
 sound-moves w e two =
-    let counts = apart (whole_of w && truths_of w && aligned_of w && leb (word w 14) most_bytes && phase_sound_of w) (counter_fits_of w) e in
-    let all = apart (whole_of w && truths_of w && aligned_of w && leb (word w 14) most_bytes) (phase_sound_of w) counts.0 in
+    let all = apart (whole_of w && truths_of w && aligned_of w && leb (word w 14) most_bytes) (phase_sound_of w) e in
     let count = apart (whole_of w && truths_of w && aligned_of w) (leb (word w 14) most_bytes) all.0 in
     let moves = apart (eqb (word w 5) 0) (fits_of w) (sym (moving-tests w (eqb-true (word w 15) 2 two)) ∙ all.1) in
-    join (join (join count.0 (join (join moves.0 count.1) two)) moves.1) counts.1
+    join (join count.0 (join (join moves.0 count.1) two)) moves.1
 
 -- words move if they are sound and the phase is a move, and only then
 pub moves-told : (w : List ℕ) → moves_of w ≡ (sound_of w && eqb (word w 15) 2)

@@ -2,12 +2,11 @@
 use Rattle.std.specs.Prelude.{ℕ, ◌+◌, ◌%◌, Bool, ◌&&◌, ◌||◌, List, length, eqb, ltb, leb}
 use Rattle.kit.specs.Choice.{when}
 use Rattle.kit.specs.Limits.{most_bytes, address_end}
-use Rattle.state.specs.State.{most_threshold}
 use Rattle.words.specs.EngineWords.{word}
 
 -- as many words as an engine has
 abbrev pub whole_of : List ℕ → Bool
-whole_of w = eqb (length w) 24
+whole_of w = eqb (length w) 22
 
 -- what is a truth is 0 or 1
 abbrev pub truths_of : List ℕ → Bool
@@ -34,10 +33,6 @@ spelled_of w = whole_of w && truths_of w && bit_listed_of (word w 5) && phase_li
 abbrev pub aligned_of : List ℕ → Bool
 aligned_of w = eqb (word w 8 % 64) 0 && eqb (word w 9 % 64) 0 && eqb (word w 10 % 64) 0 && eqb (word w 11 % 64) 0
 
--- the counter is between 1 and the threshold, and the threshold at most 255
-abbrev pub counter_fits_of : List ℕ → Bool
-counter_fits_of w = leb 1 (word w 23) && leb (word w 23) (word w 22) && leb (word w 22) most_threshold
-
 -- an address that far behind `start` exists
 abbrev pub inside_of : ℕ → ℕ → Bool
 inside_of start moved = ltb (start + moved) address_end
@@ -56,7 +51,7 @@ phase_sound_of w =
 
 -- a well-formed engine has these words
 abbrev pub sound_of : List ℕ → Bool
-sound_of w = whole_of w && truths_of w && aligned_of w && leb (word w 14) most_bytes && phase_sound_of w && counter_fits_of w
+sound_of w = whole_of w && truths_of w && aligned_of w && leb (word w 14) most_bytes && phase_sound_of w
 
 -- no error bit is set, the byte count register fits, and the phase is a move
 abbrev pub settled_of : List ℕ → Bool
@@ -64,4 +59,4 @@ settled_of w = eqb (word w 5) 0 && leb (word w 14) most_bytes && eqb (word w 15)
 
 -- it is in the midst of a transfer
 abbrev pub moves_of : List ℕ → Bool
-moves_of w = whole_of w && truths_of w && aligned_of w && settled_of w && fits_of w && counter_fits_of w
+moves_of w = whole_of w && truths_of w && aligned_of w && settled_of w && fits_of w

@@ -2,22 +2,22 @@
 // as they stand: an engine made of them and stored again to be compared would cost as much as a step.
 ghost use Rattle.std.specs.Prelude.{◌≡◌};
 ghost use Rattle.words.specs.EngineWords.{ill_formed_of, engine_of};
-ghost use Rattle.spelling.specs.Spelling.{whole_of, truths_of, bit_listed_of, phase_listed_of, still_of, spelled_of, aligned_of, counter_fits_of, inside_of, fits_of, phase_sound_of, sound_of, settled_of, moves_of};
+ghost use Rattle.spelling.specs.Spelling.{whole_of, truths_of, bit_listed_of, phase_listed_of, still_of, spelled_of, aligned_of, inside_of, fits_of, phase_sound_of, sound_of, settled_of, moves_of};
 
 use kit::limits::{ADDRESS_END, MOST_BYTES};
 use kit::settings::Settings;
-use state::engine::{Engine, MOST_THRESHOLD, Pointers, fresh};
+use state::engine::{Engine, Pointers, fresh};
 use words::engine_words::{control, phase, pointers, settings, simple, status, transfer};
 
 // As many words as an engine has. The compiler knows it, and drops the test; the contracts know it by the test alone.
 fn whole(words: &[u32]) -> bool
     ensures { result ≡ whole_of words.now }
 {
-    words.len() == 24
+    words.len() == 22
 }
 
 // What is a truth is 0 or 1.
-fn truths(words: &[u32; 24]) -> bool
+fn truths(words: &[u32; 22]) -> bool
     ensures { result ≡ truths_of words.now }
 {
     (words[2] < 2)
@@ -56,14 +56,14 @@ fn phase_listed(number: u32) -> bool
 }
 
 // No transfer.
-fn still(words: &[u32; 24]) -> bool
+fn still(words: &[u32; 22]) -> bool
     ensures { result ≡ still_of words.now }
 {
     (words[16] == 0) & (words[17] == 0) & (words[18] == 0) & (words[19] == 0)
 }
 
 // Whether an engine has these words.
-fn spelled(words: &[u32; 24]) -> bool
+fn spelled(words: &[u32; 22]) -> bool
     ensures { result ≡ spelled_of words.now }
 {
     let number = words[15];
@@ -90,7 +90,7 @@ fn ill_formed(settings: Settings) -> Engine
     }
 }
 
-pub fn load(words: &[u32; 24]) -> Engine
+pub fn load(words: &[u32; 22]) -> Engine
     ensures { result ≡ engine_of words.now }
 {
     let settings = settings(words);
@@ -110,17 +110,10 @@ pub fn load(words: &[u32; 24]) -> Engine
 }
 
 // The pointers are multiples of 64.
-fn aligned(words: &[u32; 24]) -> bool
+fn aligned(words: &[u32; 22]) -> bool
     ensures { result ≡ aligned_of words.now }
 {
     (words[8] % 64 == 0) & (words[9] % 64 == 0) & (words[10] % 64 == 0) & (words[11] % 64 == 0)
-}
-
-// The counter is between 1 and the threshold, and the threshold at most 255.
-fn counter_fits(words: &[u32; 24]) -> bool
-    ensures { result ≡ counter_fits_of words.now }
-{
-    (1 <= words[23]) & (words[23] <= words[22]) & (words[22] <= MOST_THRESHOLD)
 }
 
 // Whether an address that far behind `start` exists.
@@ -131,7 +124,7 @@ fn inside(start: u32, moved: u32) -> bool
 }
 
 // The transfer is not at its end, and is where the addresses are.
-fn fits(words: &[u32; 24]) -> bool
+fn fits(words: &[u32; 22]) -> bool
     ensures { result ≡ fits_of words.now }
 {
     let moved = words[19];
@@ -143,7 +136,7 @@ fn fits(words: &[u32; 24]) -> bool
 
 // What a phase asks of the other words: an error bit only where it is idle, fetch and update only in chain mode, a transfer
 // that fits where it moves and none elsewhere.
-fn phase_sound(words: &[u32; 24]) -> bool
+fn phase_sound(words: &[u32; 22]) -> bool
     ensures { result ≡ phase_sound_of words.now }
 {
     let number = words[15];
@@ -157,32 +150,22 @@ fn phase_sound(words: &[u32; 24]) -> bool
 }
 
 // Whether a well-formed engine has these words.
-pub fn sound(words: &[u32; 24]) -> bool
+pub fn sound(words: &[u32; 22]) -> bool
     ensures { result ≡ sound_of words.now }
 {
-    whole(words)
-        & truths(words)
-        & aligned(words)
-        & (words[14] <= MOST_BYTES)
-        & phase_sound(words)
-        & counter_fits(words)
+    whole(words) & truths(words) & aligned(words) & (words[14] <= MOST_BYTES) & phase_sound(words)
 }
 
 // No error bit is set, the byte count register fits, and the phase is a move.
-fn settled(words: &[u32; 24]) -> bool
+fn settled(words: &[u32; 22]) -> bool
     ensures { result ≡ settled_of words.now }
 {
     (words[5] == 0) & (words[14] <= MOST_BYTES) & (words[15] == 2)
 }
 
 // Whether such an engine is in the midst of a transfer.
-pub fn moves(words: &[u32; 24]) -> bool
+pub fn moves(words: &[u32; 22]) -> bool
     ensures { result ≡ moves_of words.now }
 {
-    whole(words)
-        & truths(words)
-        & aligned(words)
-        & settled(words)
-        & fits(words)
-        & counter_fits(words)
+    whole(words) & truths(words) & aligned(words) & settled(words) & fits(words)
 }

@@ -13,7 +13,7 @@ use Rattle.kit.specs.declared.settings.Settings.{Settings}
 use Rattle.state.specs.declared.engine.Transfer.{Transfer}
 use Rattle.state.specs.declared.engine.Engine.{Engine}
 pub use Rattle.state.specs.Claims.{TransferFits, WellFormed}
-use Rattle.state.specs.State.{fresh_of, busy_of, error_set_of, aligned, transfer_fits, most_threshold, counter_fits, phase_fits, well_formed_of}
+use Rattle.state.specs.State.{fresh_of, busy_of, error_set_of, aligned, transfer_fits, phase_fits, well_formed_of}
 
 -- an offset within the room above an address
 pub room-above : (a n : ℕ) → a < address_end → leb n (4294967295 - a) ≡ ltb (a + n) address_end
@@ -56,53 +56,34 @@ pub not-both : (t u : Bool) → (t ≡ true → u ≡ false) → not (both t u) 
 not-both true u f = ap not (f refl)
 not-both false u f = refl
 
--- the five parts of the test
+-- the four parts of the test
 pub record Parts (s : Engine) : Type 0 where
   pub pointers : aligned s.pointers ≡ true
   pub count : leb s.simple.btt most_bytes ≡ true
   pub error : not (both (error_set_of s.status.fault) (busy_of s.phase)) ≡ true
   pub phase : phase_fits s.phase s.control.sgmode ≡ true
-  pub counter : counter_fits s.control.threshold s.status.counter ≡ true
 
 pub parts : (s : Engine) → well_formed_of s ≡ true → Parts s
 unfolding well_formed_of
 parts s e =
-    let fits = phase_fits s.phase s.control.sgmode in
-    let counts = counter_fits s.control.threshold s.status.counter in
     let f =
-    four (aligned s.pointers) (leb s.simple.btt most_bytes) (not (both (error_set_of s.status.fault) (busy_of s.phase))) (both fits counts) e in
-    record { pointers = f.0; count = f.1; error = f.2; phase = both_left fits counts f.3; counter = both_right fits counts f.3 }
+    four (aligned s.pointers) (leb s.simple.btt most_bytes) (not (both (error_set_of s.status.fault) (busy_of s.phase))) (phase_fits s.phase s.control.sgmode) e in
+    record { pointers = f.0; count = f.1; error = f.2; phase = f.3 }
 
 pub joined : (s : Engine) → Parts s → well_formed_of s ≡ true
 unfolding well_formed_of
-joined s p = both-join p.pointers (both-join p.count (both-join p.error (both-join p.phase p.counter)))
+joined s p = both-join p.pointers (both-join p.count (both-join p.error p.phase))
 
 pub aligned-test : (current tail next held : ℕ) → current % 64 ≡ 0 → tail % 64 ≡ 0 → next % 64 ≡ 0 → held % 64 ≡ 0
     → aligned (record { current = current; tail = tail; next = next; heldnext = held }) ≡ true
 aligned-test current tail next held c t n h =
     both-join (eq-eqb (current % 64) 0 c) (both-join (eq-eqb (tail % 64) 0 t) (both-join (eq-eqb (next % 64) 0 n) (eq-eqb (held % 64) 0 h)))
 
--- a counter that fits, as named facts, and back to the test
-pub counter-fits : (threshold counter : ℕ) → counter_fits threshold counter ≡ true
-    → (1 ≤ counter) × (counter ≤ threshold) × (threshold ≤ most_threshold)
-counter-fits threshold counter e =
-    let f = both_right (leb 1 counter) (both (leb counter threshold) (leb threshold most_threshold)) e in (
-      leb-true 1 counter (both_left (leb 1 counter) (both (leb counter threshold) (leb threshold most_threshold)) e),
-      leb-true counter threshold (both_left (leb counter threshold) (leb threshold most_threshold) f),
-      leb-true threshold most_threshold (both_right (leb counter threshold) (leb threshold most_threshold) f),
-    )
-
-pub counter-fits-test : (threshold counter : ℕ) → 1 ≤ counter → counter ≤ threshold → threshold ≤ most_threshold
-    → counter_fits threshold counter ≡ true
-counter-fits-test threshold counter a b c =
-    both-join (le-leb 1 counter a) (both-join (le-leb counter threshold b) (le-leb threshold most_threshold c))
-
 pub well-formed : (s : Engine) → well_formed_of s ≡ true → WellFormed s
 well-formed s e =
     let p = parts s e in
     let a =
     four (eqb (s.pointers.current % 64) 0) (eqb (s.pointers.tail % 64) 0) (eqb (s.pointers.next % 64) 0) (eqb (s.pointers.heldnext % 64) 0) p.pointers in
-    let c = counter-fits s.control.threshold s.status.counter p.counter in
     record {
       current-aligned = eqb-true _ _ a.0;
       tail-aligned = eqb-true _ _ a.1;
@@ -111,9 +92,6 @@ well-formed s e =
       count_small = leb-true _ _ p.count;
       error-idle = other-fails (error_set_of s.status.fault) (busy_of s.phase) p.error;
       phase-fits = p.phase;
-      counter-some = c.0;
-      counter-small = c.1;
-      threshold-small = c.2;
     }
 
 pub well-formed-test : (s : Engine) → WellFormed s → well_formed_of s ≡ true
@@ -123,7 +101,6 @@ well-formed-test s h =
       count = le-leb _ _ h.count_small;
       error = not-both (error_set_of s.status.fault) (busy_of s.phase) h.error-idle;
       phase = h.phase-fits;
-      counter = counter-fits-test s.control.threshold s.status.counter h.counter-some h.counter-small h.threshold-small;
     })
 
 pub fresh-well-formed : (x : Settings) → well_formed_of (fresh_of x) ≡ true

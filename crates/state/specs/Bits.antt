@@ -14,7 +14,7 @@ alignment = 64
 abbrev pub pointer : ℕ → ℕ
 pointer v = v / alignment * alignment
 
--- CDMACR: bit 1 always reads 1; bit 2 resets; bits 3, 4, 5, 12 and 14 and the field in bits 23..16 are kept
+-- CDMACR: bit 1 and the field in bits 23..16 always read 1; bit 2 resets; bits 3, 4, 5, 12 and 14 are kept
 abbrev pub tail_pntr_en : ℕ
 tail_pntr_en = 1
 
@@ -39,11 +39,7 @@ err_irq_en = 14
 abbrev pub irq_threshold : ℕ
 irq_threshold = 16
 
--- bits 23..16 of a value
-abbrev pub threshold_in : ℕ → ℕ
-threshold_in v = v / 2 ^ irq_threshold % 2 ^ 8
-
--- CDMASR: bit 3 always reads 1; the field in bits 23..16 is the counter
+-- CDMASR: bit 3 and the field in bits 23..16 always read 1
 abbrev pub idle : ℕ
 idle = 1
 

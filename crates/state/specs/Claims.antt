@@ -8,7 +8,7 @@ use Rattle.state.specs.declared.engine.Transfer.{Transfer}
 use Rattle.state.specs.declared.engine.Engine.{Engine}
 use Rattle.state.specs.Bits.{alignment}
 use Rattle.state.specs.Descriptor.{start_of}
-use Rattle.state.specs.State.{fresh_of, busy_of, error_set_of, transfer_fits, phase_fits, most_threshold, well_formed_of}
+use Rattle.state.specs.State.{fresh_of, busy_of, error_set_of, transfer_fits, phase_fits, well_formed_of}
 
 -- a transfer in its midst, as named facts
 pub record TransferFits (t : Transfer) : Type 0 where
@@ -26,9 +26,6 @@ pub record WellFormed (s : Engine) : Type 0 where
   pub count_small : s.simple.btt ≤ most_bytes
   pub error-idle : error_set_of s.status.fault ≡ true → busy_of s.phase ≡ false
   pub phase-fits : phase_fits s.phase s.control.sgmode ≡ true
-  pub counter-some : 1 ≤ s.status.counter
-  pub counter-small : s.status.counter ≤ s.control.threshold
-  pub threshold-small : s.control.threshold ≤ most_threshold
 
 -- what holds of a transfer that starts
 pub record Suited (w : ℕ) (c : Control) (source destination count : ℕ) : Type 0 where

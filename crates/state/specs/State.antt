@@ -16,12 +16,12 @@ use Rattle.state.specs.declared.engine.ErrorBit.TheVariants.{Clear, DmaIntErr, D
 use Rattle.state.specs.declared.engine.Phase.{Phase}
 use Rattle.state.specs.declared.engine.Phase.TheVariants.{Idle, Fetch, Move, Update}
 
--- simple mode, idle, threshold and counter 1, enables and all other registers and pointers 0
+-- simple mode, idle, enables and all other registers and pointers 0
 abbrev pub fresh_of : Settings → Engine
 fresh_of settings = record {
   settings = settings;
-  control = record { sgmode = false; keyholeread = false; keyholewrite = false; iocen = false; erren = false; threshold = 1 };
-  status = record { fault = Clear; ioc = false; err = false; counter = 1 };
+  control = record { sgmode = false; keyholeread = false; keyholewrite = false; iocen = false; erren = false };
+  status = record { fault = Clear; ioc = false; err = false };
   pointers = record { current = 0; tail = 0; next = 0; heldnext = 0 };
   simple = record { sa = 0; da = 0; btt = 0 };
   phase = Idle;
@@ -55,13 +55,6 @@ transfer_fits t =
     (both (leb t.total most_bytes)
     (both (ltb (t.source + t.moved) address_end) (ltb (t.destination + t.moved) address_end)))
 
--- the counter is between 1 and the threshold, and the threshold at most 255
-abbrev pub most_threshold : ℕ
-most_threshold = 255
-
-abbrev pub counter_fits : ℕ → ℕ → Bool
-counter_fits threshold counter = both (leb 1 counter) (both (leb counter threshold) (leb threshold most_threshold))
-
 -- fetch and update phases only in chain mode
 abbrev pub phase_fits : Phase → Bool → Bool
 phase_fits Idle sgmode = true
@@ -74,8 +67,7 @@ unfoldable pub well_formed_of : Engine → Bool
 well_formed_of s =
     both (aligned s.pointers)
     (both (leb s.simple.btt most_bytes)
-    (both (not (both (error_set_of s.status.fault) (busy_of s.phase)))
-    (both (phase_fits s.phase s.control.sgmode) (counter_fits s.control.threshold s.status.counter))))
+    (both (not (both (error_set_of s.status.fault) (busy_of s.phase))) (phase_fits s.phase s.control.sgmode)))
 
 -- (IOC_Irq and its enable) or (Err_Irq and its enable)
 abbrev pub interrupt_line_of : Engine → Bool
@@ -99,16 +91,13 @@ with_phase s x = record { settings = s.settings; control = s.control; status = s
 
 -- a state with one field replaced
 abbrev pub with_fault : Engine → ErrorBit → Engine
-with_fault s x = with_status s (record { fault = x; ioc = s.status.ioc; err = s.status.err; counter = s.status.counter })
+with_fault s x = with_status s (record { fault = x; ioc = s.status.ioc; err = s.status.err })
 
 abbrev pub with_ioc : Engine → Bool → Engine
-with_ioc s x = with_status s (record { fault = s.status.fault; ioc = x; err = s.status.err; counter = s.status.counter })
+with_ioc s x = with_status s (record { fault = s.status.fault; ioc = x; err = s.status.err })
 
 abbrev pub with_err : Engine → Bool → Engine
-with_err s x = with_status s (record { fault = s.status.fault; ioc = s.status.ioc; err = x; counter = s.status.counter })
-
-abbrev pub with_counter : Engine → ℕ → Engine
-with_counter s x = with_status s (record { fault = s.status.fault; ioc = s.status.ioc; err = s.status.err; counter = x })
+with_err s x = with_status s (record { fault = s.status.fault; ioc = s.status.ioc; err = x })
 
 abbrev pub with_current : Engine → ℕ → Engine
 with_current s x = with_pointers s (record { current = x; tail = s.pointers.tail; next = s.pointers.next; heldnext = s.pointers.heldnext })

@@ -1,8 +1,8 @@
 // The bits of CDMACR and CDMASR by their numbers, as in PG034.
 ghost use Rattle.std.specs.Prelude.{◌≡◌, ◌<◌};
-ghost use Rattle.state.specs.Bits.{bit as bit_of, threshold_in};
+ghost use Rattle.state.specs.Bits.{bit as bit_of};
 
-// CDMACR. Bit 1 (TailPntrEn) always reads 1; the field from bit 16 on is IRQThreshold.
+// CDMACR. Bit 1 (TailPntrEn) and the field from bit 16 on (IRQThreshold) always read 1.
 pub const TAIL_PNTR_EN: u32 = 1;
 
 pub const RESET: u32 = 2;
@@ -19,7 +19,7 @@ pub const ERR_IRQ_EN: u32 = 14;
 
 pub const IRQ_THRESHOLD: u32 = 16;
 
-// CDMASR. Bit 3 (SGIncld) always reads 1; the field from bit 16 on is IRQThresholdSts, the counter.
+// CDMASR. Bit 3 (SGIncld) and the field from bit 16 on (IRQThresholdSts) always read 1.
 pub const IDLE: u32 = 1;
 
 pub const SG_INCLD: u32 = 3;
@@ -48,11 +48,4 @@ pub fn bit(value: u32, number: u32) -> bool
     ensures { result ≡ bit_of number value }
 {
     (value >> number) % 2 == 1
-}
-
-// The field of eight bits that a CDMACR value has for the threshold.
-pub fn threshold_in(value: u32) -> u32
-    ensures { result ≡ threshold_in value }
-{
-    (value >> IRQ_THRESHOLD) % 256
 }

@@ -2,7 +2,7 @@
 ghost use Rattle.std.specs.Prelude.{◌≡◌, ◌+◌, ltb};
 ghost use Rattle.kit.specs.Limits.{address_end};
 ghost use Rattle.state.specs.Bits.{error_bit_of};
-ghost use Rattle.state.specs.State.{fresh_of, busy_of, error_set_of, aligned, transfer_fits, counter_fits, phase_fits, well_formed_of, interrupt_line_of};
+ghost use Rattle.state.specs.State.{fresh_of, busy_of, error_set_of, aligned, transfer_fits, phase_fits, well_formed_of, interrupt_line_of};
 
 use crate::bits::{DMA_DEC_ERR, DMA_INT_ERR, DMA_SLV_ERR, SG_DEC_ERR, SG_INT_ERR, SG_SLV_ERR};
 use crate::descriptor::ALIGNMENT;
@@ -10,8 +10,7 @@ use kit::limits::MOST_BYTES;
 use kit::logic::{both, either};
 use kit::settings::Settings;
 
-// What CDMACR keeps: SGMode, Key Hole Read and Write (source and destination fixed), IOC_IrqEn, Err_IrqEn, and the threshold:
-// so many good updates for an IOC_Irq.
+// CDMACR's kept bits: SGMode, Key Hole Read and Write (source and destination fixed), IOC_IrqEn, Err_IrqEn.
 #[derive(Drop)]
 pub struct Control {
     pub sgmode: bool,
@@ -19,7 +18,6 @@ pub struct Control {
     pub keyholewrite: bool,
     pub iocen: bool,
     pub erren: bool,
-    pub threshold: u32,
 }
 
 // CDMASR's error bits: at most one of them is ever set, as an error halts the engine and only a reset goes on.
@@ -34,13 +32,12 @@ pub enum ErrorBit {
     SgDecErr,
 }
 
-// CDMASR's error bit, IOC_Irq, Err_Irq, and the counter: the good updates still to come until IOC_Irq.
+// CDMASR's error bit, IOC_Irq and Err_Irq.
 #[derive(Drop)]
 pub struct Status {
     pub fault: ErrorBit,
-    pub counter: u32,
-    pub err: bool,
     pub ioc: bool,
+    pub err: bool,
 }
 
 // CURDESC, TAILDESC, the next pointer, and the next pointer that a fetched descriptor holds.
@@ -86,16 +83,14 @@ pub enum Phase {
     Update(Outcome),
 }
 
-// The order of these fields, and of those of Status, is one by which a replay compiles to few instructions; another order of the
-// same fields takes up to a tenth more.
 #[derive(Drop)]
 pub struct Engine {
-    pub simple: Simple,
     pub settings: Settings,
-    pub pointers: Pointers,
-    pub phase: Phase,
-    pub status: Status,
     pub control: Control,
+    pub status: Status,
+    pub pointers: Pointers,
+    pub simple: Simple,
+    pub phase: Phase,
 }
 
 // An engine after power-up or reset; any settings will do, and the first call on it judges them.
@@ -110,13 +105,11 @@ pub fn fresh(settings: Settings) -> Engine
             keyholewrite: false,
             iocen: false,
             erren: false,
-            threshold: 1,
         },
         status: Status {
             fault: ErrorBit::Clear,
             ioc: false,
             err: false,
-            counter: 1,
         },
         pointers: Pointers {
             current: 0,
@@ -225,18 +218,6 @@ fn phase_fits(phase: Phase, sgmode: bool) -> bool
     }
 }
 
-pub const MOST_THRESHOLD: u32 = 255;
-
-// From 1 to the threshold.
-fn counter_fits(threshold: u32, counter: u32) -> bool
-    ensures { result ≡ counter_fits threshold counter }
-{
-    both(
-        1 <= counter,
-        both(counter <= threshold, threshold <= MOST_THRESHOLD),
-    )
-}
-
 // The state is well formed.
 pub fn well_formed(engine: Engine) -> bool
     ensures { result ≡ well_formed_of engine }
@@ -251,10 +232,7 @@ pub fn well_formed(engine: Engine) -> bool
             engine.simple.btt <= MOST_BYTES,
             both(
                 !both(error_set(fault), busy(phase)),
-                both(
-                    phase_fits(phase, engine.control.sgmode),
-                    counter_fits(engine.control.threshold, engine.status.counter),
-                ),
+                phase_fits(phase, engine.control.sgmode),
             ),
         ),
     )

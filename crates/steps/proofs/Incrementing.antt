@@ -29,7 +29,7 @@ module _ (s : Engine) (t : Transfer) (m : List ℕ) (windows : List Window) (leg
   -- the engine with these key hole bits
   abbrev with_bits : Bool → Bool → Engine
   with_bits reads writes =
-      with_control s (record { sgmode = s.control.sgmode; keyholeread = reads; keyholewrite = writes; iocen = s.control.iocen; erren = s.control.erren; threshold = s.control.threshold })
+      with_control s (record { sgmode = s.control.sgmode; keyholeread = reads; keyholewrite = writes; iocen = s.control.iocen; erren = s.control.erren })
 
   abbrev bytes : ℕ
   bytes = burst_bytes s.settings.width s.settings.beats (writes_at t) (t.total - t.moved)

@@ -1,6 +1,6 @@
 -- What a step keeps: what only a register write changes, the memory's length and bytes, and the state's being well formed.
 use mathlib.Core.Path.{◌≡◌, refl, sym, ap, subst, ◌∙◌}
-use Prim.Native.Nat.{ℕ, ◌+◌, ◌-◌, ◌/◌, ◌≤◌, ◌<◌}
+use Prim.Native.Nat.{ℕ, ◌+◌, ◌/◌, ◌≤◌, ◌<◌}
 use mathlib.Core.Bool.{Bool, true, false}
 use mathlib.Core.List.{List}
 use native.Mathlib.Nat.{mul-mod_left}
@@ -31,8 +31,8 @@ use Rattle.state.specs.Descriptor.{start_of}
 use Rattle.state.specs.State.{busy_of, error_set_of, phase_fits, with_status, with_phase}
 use Rattle.state.proofs.Start as start
 use Rattle.state.proofs.WellFormed.{transfer-fits, transfer-fits-test, WellFormed, well-formed, well-formed-test}
-use Rattle.steps.specs.Step.{AfterAdvance, stop_on_error_of, phase_after_fetch_of, finish_transfer_of, read_place, write_place, next_bytes, status_place, status_word_of, counted_of, complete_descriptor_of, retire_of, advance_of}
-use Rattle.steps.specs.Claims.{Bytes, Lasts, AdvanceKeeps, AdvanceWellFormed}
+use Rattle.steps.specs.Step.{AfterAdvance, stop_on_error_of, phase_after_fetch_of, finish_transfer_of, read_place, write_place, next_bytes, status_place, status_word_of, complete_descriptor_of, retire_of, advance_of}
+use Rattle.steps.specs.Claims.{Bytes, Lasts, Keeps, AdvanceKeeps, AdvanceWellFormed}
 use Rattle.steps.proofs.Advances.{Advance, rests, halts, fetches, moves, faults, updates, descriptor, advances}
 use Rattle.steps.proofs.Bursts.{burst-fits, answer-low}
 use Rattle.steps.proofs.Stored.{word_fits, sets-bytes, moved-bytes, word_bytes}
@@ -96,18 +96,10 @@ advance-keeps s m windows =
 no-error : (s : Engine) → WellFormed s → busy_of s.phase ≡ true → error_set_of s.status.fault ≡ true → ⊥
 no-error s h busy e = never (sym (h.error-idle e) ∙ busy)
 
--- a counter that counted is between 1 and the threshold
-counted-fits : (threshold : ℕ) (t : Status) → 1 ≤ t.counter → t.counter ≤ threshold
-    → (1 ≤ (counted_of threshold t).counter) × ((counted_of threshold t).counter ≤ threshold)
-counted-fits threshold t some small =
-    cases (λ (n : ℕ). (1 ≤ n) × (n ≤ threshold)) (eqb (t.counter - 1) 0)
-    (λ _. (omega (arith, some, small), omega arith))
-    (λ e. (omega (arith, eqb-false (t.counter - 1) 0 e), omega (arith, small)))
-
 -- a state of the same pointers and registers whose status and phase go together
-pair-well : (s : Engine) (status : Status) (p : Phase) → status.counter ≡ s.status.counter → WellFormed s → (error_set_of status.fault ≡ true → busy_of p ≡ false)
+pair-well : (s : Engine) (status : Status) (p : Phase) → WellFormed s → (error_set_of status.fault ≡ true → busy_of p ≡ false)
     → phase_fits p s.control.sgmode ≡ true → WellFormed (with_phase (with_status s status) p)
-pair-well s status p same h idle fits = record {
+pair-well s status p h idle fits = record {
   current-aligned = h.current-aligned;
   tail-aligned = h.tail-aligned;
   next-aligned = h.next-aligned;
@@ -115,9 +107,6 @@ pair-well s status p same h idle fits = record {
   count_small = h.count_small;
   error-idle = idle;
   phase-fits = fits;
-  counter-some = subst (λ (n : ℕ). 1 ≤ n) (sym same) h.counter-some;
-  counter-small = subst (λ (n : ℕ). n ≤ s.control.threshold) (sym same) h.counter-small;
-  threshold-small = h.threshold-small;
 }
 
 start_fits : (w : ℕ) (c : Control) (source destination total : ℕ) (chain : Bool) → chain ≡ true → source < address_end → destination < address_end
@@ -131,25 +120,23 @@ start_fits w c source destination total chain e hs hd ht = go (start_of w c sour
 module _ (s : Engine) (m : List ℕ) (windows : List Window) (legals : legal_of s.settings ≡ true)
     (small : length m ≤ most_memory) (bytes : Bytes m) (h : WellFormed s) where
   halted-well : (b : ErrorBit) → WellFormed (stop_on_error_of s b)
-  halted-well b = pair-well s (record { fault = b; ioc = s.status.ioc; err = true; counter = s.status.counter }) Idle refl h (λ _. refl) refl
+  halted-well b = pair-well s (record { fault = b; ioc = s.status.ioc; err = true }) Idle h (λ _. refl) refl
 
   -- a busy state that goes on to a phase that fits
   phase-well : (p : Phase) → busy_of s.phase ≡ true → phase_fits p s.control.sgmode ≡ true → WellFormed (with_phase s p)
-  phase-well p busy fits = pair-well s s.status p refl h (λ e. absurd (no-error s h busy e)) fits
+  phase-well p busy fits = pair-well s s.status p h (λ e. absurd (no-error s h busy e)) fits
 
   finished-well : busy_of s.phase ≡ true → WellFormed (finish_transfer_of s)
   finished-well busy =
       cases WellFormed s.control.sgmode (λ e. phase-well (Update Complete) busy e)
-      (λ _. pair-well s (record { fault = s.status.fault; ioc = true; err = s.status.err; counter = s.status.counter }) Idle refl h (λ _. refl) refl)
+      (λ _. pair-well s (record { fault = s.status.fault; ioc = true; err = s.status.err }) Idle h (λ _. refl) refl)
 
   -- the phase's own condition
   fits : {p : Phase} → s.phase ≡ p → phase_fits p s.control.sgmode ≡ true
   fits e = subst (λ (p : Phase). phase_fits p s.control.sgmode ≡ true) e h.phase-fits
 
   completed-well : s.control.sgmode ≡ true → busy_of s.phase ≡ true → WellFormed (complete_descriptor_of s)
-  completed-well chain busy =
-      let counted = counted-fits s.control.threshold s.status h.counter-some h.counter-small in
-      cases WellFormed (eqb s.pointers.current s.pointers.tail)
+  completed-well chain busy = cases WellFormed (eqb s.pointers.current s.pointers.tail)
       (λ _. record {
         current-aligned = h.current-aligned;
         tail-aligned = h.tail-aligned;
@@ -158,9 +145,6 @@ module _ (s : Engine) (m : List ℕ) (windows : List Window) (legals : legal_of 
         count_small = h.count_small;
         error-idle = λ _. refl;
         phase-fits = refl;
-        counter-some = counted.0;
-        counter-small = counted.1;
-        threshold-small = h.threshold-small;
       })
       (λ _. record {
         current-aligned = h.held-aligned;
@@ -170,9 +154,6 @@ module _ (s : Engine) (m : List ℕ) (windows : List Window) (legals : legal_of 
         count_small = h.count_small;
         error-idle = λ e. absurd (no-error s h busy e);
         phase-fits = chain;
-        counter-some = counted.0;
-        counter-small = counted.1;
-        threshold-small = h.threshold-small;
       })
 
   retired-well : s.control.sgmode ≡ true → busy_of s.phase ≡ true → (o : Outcome) → WellFormed (retire_of s o)
@@ -196,9 +177,6 @@ module _ (s : Engine) (m : List ℕ) (windows : List Window) (legals : legal_of 
         error-idle = λ x. absurd (no-error s h (ap busy_of e) x);
         phase-fits = start_fits s.settings.width s.control d.source d.destination d.count s.control.sgmode (fits e)
             (word_fits m bytes (at + 0x08)) (word_fits m bytes (at + 0x10)) (omega arith);
-        counter-some = h.counter-some;
-        counter-small = h.counter-small;
-        threshold-small = h.threshold-small;
       }
   view-well (moves t e okay) =
       let busy = ap busy_of e in

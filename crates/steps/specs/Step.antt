@@ -1,7 +1,7 @@
 -- RULES.md, "Descriptor and steps": one step does one of these: idle, fetch, move, update.
 use Rattle.std.specs.Prelude.{ℕ, ◌+◌, ◌-◌, ◌*◌, ◌^◌, min, Bool, true, List, length, eqb}
 use Rattle.std.proofs.lemmas.List.Edits.{sets}
-use Rattle.kit.specs.Choice.{when, either}
+use Rattle.kit.specs.Choice.{when}
 use Rattle.kit.specs.Word.{bytes_of}
 use Rattle.kit.specs.declared.settings.Settings.{Settings}
 use Rattle.cut.specs.Cut.{burst_bytes}
@@ -12,7 +12,6 @@ use Rattle.memory.specs.Verdict.{group_of}
 use Rattle.sides.specs.Sides.{place_of, sides_answer, sides_moved}
 use Rattle.places.specs.Places.{fault_of, address_of}
 use Rattle.state.specs.declared.engine.Engine.{Engine}
-use Rattle.state.specs.declared.engine.Status.{Status}
 use Rattle.state.specs.declared.engine.Transfer.{Transfer}
 use Rattle.state.specs.declared.engine.ErrorBit.{ErrorBit}
 use Rattle.state.specs.declared.engine.ErrorBit.TheVariants.{DmaIntErr, DmaSlvErr, DmaDecErr, SgIntErr, SgSlvErr, SgDecErr}
@@ -25,7 +24,7 @@ use Rattle.state.specs.declared.descriptor.Start.{Start}
 use Rattle.state.specs.declared.descriptor.Start.TheVariants.{Moves, Internal as InternalError}
 use Rattle.state.specs.Bits.{error_bit_of}
 use Rattle.state.specs.Descriptor.{descriptor_bytes, status_at, descriptor_at, start_of}
-use Rattle.state.specs.State.{with_status, with_phase, with_fault, with_ioc, with_err, with_current, with_next, with_heldnext}
+use Rattle.state.specs.State.{with_phase, with_fault, with_ioc, with_err, with_current, with_next, with_heldnext}
 use Rattle.steps.specs.declared.event.Event.{Event}
 use Rattle.steps.specs.declared.event.Event.TheVariants.{None, Fetch as Fetched, Move as Moved, Fault, Update as Updated, Halt}
 use Rattle.steps.specs.declared.event.Advanced.{Advanced}
@@ -183,21 +182,13 @@ status_word_of Internal = 2 ^ 28
 status_word_of Slave = 2 ^ 29
 status_word_of Decode = 2 ^ 30
 
--- a good update lowers the counter; at zero IOC_Irq is set and the counter reloads
-abbrev pub counted_of : ℕ → Status → Status
-counted_of threshold t =
-    let lowered = t.counter - 1 in
-    let reached = eqb lowered 0 in
-    record { fault = t.fault; ioc = either reached t.ioc; err = t.err; counter = when reached threshold lowered }
-
--- a good update counts and sets next = held next; if current equals tail, idle, else current = next and fetch
+-- a good update sets IOC_Irq and next = held next; if current equals tail, idle, else current = next and fetch
 abbrev pub complete_descriptor_of : Engine → Engine
 complete_descriptor_of s =
     let held = s.pointers.heldnext in
-    let counted = with_status s (counted_of s.control.threshold s.status) in
     when (eqb s.pointers.current s.pointers.tail)
-    (with_phase (with_next counted held) Idle)
-    (with_phase (with_current (with_next counted held) held) Fetch)
+    (with_phase (with_next (with_ioc s true) held) Idle)
+    (with_phase (with_current (with_next (with_ioc s true) held) held) Fetch)
 
 -- a bad one sets the CDMASR bit and halts
 abbrev pub retire_of : Engine → Outcome → Engine

@@ -12,7 +12,6 @@ pub fn stop_on_error(engine: Engine, bit: ErrorBit) -> Engine
         fault: bit,
         ioc: engine.status.ioc,
         err: true,
-        counter: engine.status.counter,
     };
     Engine {
         status,

@@ -2,14 +2,14 @@
 ghost use Rattle.std.specs.Prelude.{◌≡◌, ◌%◌};
 ghost use Rattle.memory.specs.Windows.{windows_of};
 ghost use Rattle.state.specs.Bits.{alignment};
-ghost use Rattle.steps.specs.Step.{advance_seen, status_word_of, counted_of, complete_descriptor_of, retire_of, after_update_of, update_of};
+ghost use Rattle.steps.specs.Step.{advance_seen, status_word_of, complete_descriptor_of, retire_of, after_update_of, update_of};
 
 use crate::event::{Advanced, Event};
 use crate::halt::{halt, stop_on_error};
 use kit::word::store;
 use memory::verdict::{Verdict, judge};
 use state::descriptor::STATUS;
-use state::engine::{Engine, ErrorBit, Outcome, Phase, Status};
+use state::engine::{Engine, ErrorBit, Outcome, Phase};
 
 // The word for an outcome: complete is bit 31; an error only bit 30, 29 or 28.
 fn status_word(outcome: Outcome) -> u32
@@ -23,41 +23,19 @@ fn status_word(outcome: Outcome) -> u32
     }
 }
 
-// A good update counts; the one at which the counter comes to zero sets IOC_Irq and reloads it.
-fn count_update(threshold: u32, status: Status) -> Status
-    ensures { result ≡ counted_of threshold status }
-{
-    if status.counter <= 1 {
-        return Status {
-            ioc: true,
-            counter: threshold,
-            ..status
-        };
-    }
-    Status {
-        counter: status.counter - 1,
-        ..status
-    }
-}
-
-// A good update: next is the held next; at the tail idle, else on to the next descriptor.
+// A good update: IOC_Irq, next is the held next; at the tail idle, else on to the next descriptor.
 fn complete_descriptor(mut engine: Engine) -> Engine
     ensures { result ≡ complete_descriptor_of engine }
 {
     let held = engine.pointers.heldnext;
-    let before = engine.status;
-    let status = count_update(engine.control.threshold, before);
     let mut phase = Phase::Idle;
+    engine.status.ioc = true;
     engine.pointers.next = held;
     if engine.pointers.current != engine.pointers.tail {
         engine.pointers.current = held;
         phase = Phase::Fetch;
     }
-    Engine {
-        status,
-        phase,
-        ..engine
-    }
+    Engine { phase, ..engine }
 }
 
 fn retire(engine: Engine, outcome: Outcome) -> Engine

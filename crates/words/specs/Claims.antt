@@ -1,5 +1,5 @@
 -- include/belikumba.h: what a caller's words promise. Proved in proofs/Claims.antt.
-use Rattle.std.specs.Prelude.{ℕ, ◌≡◌, false, ◌⊎◌, List, [], ◌∷◌, ◌++◌, replicate}
+use Rattle.std.specs.Prelude.{ℕ, ◌≡◌, false, ◌⊎◌, List, ◌∷◌, replicate}
 use Rattle.kit.specs.declared.settings.Settings.{Settings}
 use Rattle.state.specs.declared.engine.Engine.{Engine}
 use Rattle.state.specs.State.{fresh_of, well_formed_of}
@@ -11,5 +11,5 @@ pub record Words : Type 0 where
   pub engines-differ : (s t : Engine) → words_of s ≡ words_of t → s ≡ t
   -- words that are not those of the engine read from them make one that is not well formed
   pub words_back : (w : List ℕ) → (words_of (engine_of w) ≡ w) ⊎ (well_formed_of (engine_of w) ≡ false)
-  -- a fresh engine's words are its settings, zeros, and 1 for the threshold and for the counter
-  pub fresh-engine : (settings : Settings) → words_of (fresh_of settings) ≡ settings.width ∷ settings.beats ∷ (replicate 20 0 ++ (1 ∷ 1 ∷ []))
+  -- a fresh engine's words are its settings and zeros
+  pub fresh-engine : (settings : Settings) → words_of (fresh_of settings) ≡ settings.width ∷ settings.beats ∷ replicate 20 0

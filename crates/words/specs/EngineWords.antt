@@ -55,7 +55,6 @@ words_of s =
     ∷ s.simple.sa ∷ s.simple.da ∷ s.simple.btt
     ∷ phase_number_of s.phase ∷ t.source ∷ t.destination ∷ t.total ∷ t.moved
     ∷ truth s.control.keyholeread ∷ truth s.control.keyholewrite
-    ∷ s.control.threshold ∷ s.status.counter
     ∷ []
 
 -- word i
@@ -73,7 +72,6 @@ stepped_words_of s w =
     ∷ word w 12 ∷ word w 13 ∷ word w 14
     ∷ phase_number_of s.phase ∷ t.source ∷ t.destination ∷ t.total ∷ t.moved
     ∷ word w 20 ∷ word w 21
-    ∷ word w 22 ∷ s.status.counter
     ∷ []
 
 unfoldable pub error_bit_from : ℕ → ErrorBit
@@ -96,11 +94,10 @@ control_from w = record {
   keyholewrite = eqb (word w 21) 1;
   iocen = eqb (word w 3) 1;
   erren = eqb (word w 4) 1;
-  threshold = word w 22;
 }
 
 abbrev pub status_from : List ℕ → Status
-status_from w = record { fault = error_bit_from (word w 5); ioc = eqb (word w 6) 1; err = eqb (word w 7) 1; counter = word w 23 }
+status_from w = record { fault = error_bit_from (word w 5); ioc = eqb (word w 6) 1; err = eqb (word w 7) 1 }
 
 abbrev pub pointers_from : List ℕ → Pointers
 pointers_from w = record { current = word w 8; tail = word w 9; next = word w 10; heldnext = word w 11 }

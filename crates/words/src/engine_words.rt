@@ -48,7 +48,7 @@ fn moving(phase: Phase) -> Transfer
     }
 }
 
-pub fn store(engine: Engine, words: &mut [u32; 24])
+pub fn store(engine: Engine, words: &mut [u32; 22])
     ensures { words.new ≡ words_of engine }
 {
     let status = engine.status;
@@ -78,13 +78,11 @@ pub fn store(engine: Engine, words: &mut [u32; 24])
         transfer.moved,
         truth(engine.control.keyholeread),
         truth(engine.control.keyholewrite),
-        engine.control.threshold,
-        status.counter,
     ];
 }
 
 // The engine after some steps, in place of the one that the words held: what only a register write changes stays as it stands.
-pub fn store_stepped(engine: Engine, words: &mut [u32; 24])
+pub fn store_stepped(engine: Engine, words: &mut [u32; 22])
     ensures { words.new ≡ stepped_words_of engine words.old }
 {
     let status = engine.status;
@@ -114,8 +112,6 @@ pub fn store_stepped(engine: Engine, words: &mut [u32; 24])
         transfer.moved,
         words[20],
         words[21],
-        words[22],
-        status.counter,
     ];
 }
 
@@ -147,7 +143,7 @@ pub fn phase(number: u32, transfer: Transfer) -> Phase
     }
 }
 
-pub fn settings(words: &[u32; 24]) -> Settings
+pub fn settings(words: &[u32; 22]) -> Settings
     ensures { result ≡ settings_from words.now }
 {
     Settings {
@@ -156,7 +152,7 @@ pub fn settings(words: &[u32; 24]) -> Settings
     }
 }
 
-pub fn control(words: &[u32; 24]) -> Control
+pub fn control(words: &[u32; 22]) -> Control
     ensures { result ≡ control_from words.now }
 {
     Control {
@@ -165,22 +161,20 @@ pub fn control(words: &[u32; 24]) -> Control
         keyholewrite: words[21] == 1,
         iocen: words[3] == 1,
         erren: words[4] == 1,
-        threshold: words[22],
     }
 }
 
-pub fn status(words: &[u32; 24]) -> Status
+pub fn status(words: &[u32; 22]) -> Status
     ensures { result ≡ status_from words.now }
 {
     Status {
         fault: error_bit(words[5]),
         ioc: words[6] == 1,
         err: words[7] == 1,
-        counter: words[23],
     }
 }
 
-pub fn pointers(words: &[u32; 24]) -> Pointers
+pub fn pointers(words: &[u32; 22]) -> Pointers
     ensures { result ≡ pointers_from words.now }
 {
     Pointers {
@@ -191,7 +185,7 @@ pub fn pointers(words: &[u32; 24]) -> Pointers
     }
 }
 
-pub fn simple(words: &[u32; 24]) -> Simple
+pub fn simple(words: &[u32; 22]) -> Simple
     ensures { result ≡ simple_from words.now }
 {
     Simple {
@@ -201,7 +195,7 @@ pub fn simple(words: &[u32; 24]) -> Simple
     }
 }
 
-pub fn transfer(words: &[u32; 24]) -> Transfer
+pub fn transfer(words: &[u32; 22]) -> Transfer
     ensures { result ≡ transfer_from words.now }
 {
     Transfer {
@@ -213,7 +207,7 @@ pub fn transfer(words: &[u32; 24]) -> Transfer
 }
 
 // The engine that the words spell, whether or not an engine has such words.
-pub fn engine_from(words: &[u32; 24]) -> Engine
+pub fn engine_from(words: &[u32; 22]) -> Engine
     ensures { result ≡ engine_from words.now }
 {
     let transfer = transfer(words);

@@ -5,7 +5,6 @@ use crate::damage::{BAD_SETTINGS, UNKNOWN_MARKS};
 use crate::fault_cases;
 use crate::maker::{Record, MEMORY};
 use crate::pair_cases;
-use crate::threshold_cases;
 use independent::engine::Engine;
 use independent::record::Bus;
 use shared::bursts::full_piece;
@@ -191,7 +190,6 @@ fn cases() -> Vec<Vec<u8>> {
     all.extend(large());
     all.extend(fault_cases::cases());
     all.extend(pair_cases::cases());
-    all.extend(threshold_cases::cases());
     all
 }
 

@@ -5,12 +5,10 @@ use shared::coverage::{Counts, Groups, CDMACR_BITS, CDMASR_BITS};
 use shared::fault_place::PLACES;
 use shared::key_hole::{RUNS, WRITES};
 use shared::key_hole_bursts::BURSTS;
-use shared::threshold;
 
 use crate::conversion::CONVERSIONS;
 use crate::families::FAMILIES;
 use crate::observe_pairs;
-use crate::observe_thresholds;
 use crate::situations::SITUATIONS;
 
 /// The words of a listing's lines.
@@ -35,10 +33,8 @@ const NUMBERED: &Groups = &[
 pub fn new() -> Counts {
     let of_pairs = [observe_pairs::RECORDS, observe_pairs::ENGINES, observe_pairs::MEETINGS];
     let names = [&WORDS[..], SITUATIONS, CONVERSIONS, WRITES, BURSTS, RUNS, PLACES, &FAMILIES];
-    let of_thresholds =
-        [threshold::WRITES, threshold::READS, threshold::STEPS, observe_thresholds::COUNTS];
-    let names = names.into_iter().chain(of_pairs).chain(of_thresholds);
-    let groups = [NUMBERED, threshold::NUMBERED, observe_pairs::NUMBERED].concat();
+    let names = names.into_iter().chain(of_pairs);
+    let groups = [NUMBERED, observe_pairs::NUMBERED].concat();
     Counts::new(&groups, names.flatten().copied())
 }
 
@@ -47,14 +43,9 @@ pub fn print(counts: &Counts) -> usize {
     println!("coverage");
     counts.print_words("listing words", &WORDS)
         + counts.print_numbers(NUMBERED)
-        + counts.print_numbers(threshold::NUMBERED)
         + counts.print_tables()
         + counts.print_list("situations", SITUATIONS)
         + counts.print_list("conversions", CONVERSIONS)
-        + counts.print_list("interrupt threshold written", threshold::WRITES)
-        + counts.print_list("interrupt threshold and counter read", threshold::READS)
-        + counts.print_list("good updates counted", threshold::STEPS)
-        + counts.print_list("counts from record to record", observe_thresholds::COUNTS)
         + counts.print_list("key hole bits written", WRITES)
         + counts.print_list("bursts with a fixed side", BURSTS)
         + counts.print_list("runs with a fixed side", RUNS)

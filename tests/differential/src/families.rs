@@ -3,14 +3,14 @@
 use std::sync::OnceLock;
 
 use crate::maker::Maker;
-use crate::{catalogue, chains, clocks, copies, damage, faults, pairs, pokes, queues, thresholds};
+use crate::{catalogue, chains, clocks, copies, damage, faults, pairs, pokes, queues};
 use shared::clocks::FLAGS;
 use shared::random::Random;
 
 /// The seed of the fixed traces.
 pub const FIXED: u64 = 1;
 
-pub const FAMILIES: [&str; 19] = [
+pub const FAMILIES: [&str; 17] = [
     "case",
     "prefix",
     "changed byte",
@@ -19,14 +19,12 @@ pub const FAMILIES: [&str; 19] = [
     "chains",
     "queues",
     "faults",
-    "thresholds",
     "clocks",
     "refused",
     "damaged",
     "noise",
     "long",
     "two engines",
-    "two engines, thresholds",
     "two engines, refused",
     "two engines, damaged",
     "other form",
@@ -50,7 +48,7 @@ pub fn fixed(index: u64) -> (&'static str, Vec<u8>) {
 /// The trace generated from `seed` and `index`.
 pub fn generated(seed: u64, index: u64) -> (&'static str, Vec<u8>) {
     let mut random = Random::new(seed, index);
-    let family = match random.below(151) {
+    let family = match random.below(137) {
         0..=32 => "deep",
         33..=45 => "copies",
         46..=61 => "chains",
@@ -64,8 +62,6 @@ pub fn generated(seed: u64, index: u64) -> (&'static str, Vec<u8>) {
         116..=119 => "two engines, refused",
         120..=122 => "two engines, damaged",
         123..=124 => "other form",
-        125..=133 => "thresholds",
-        134..=138 => "two engines, thresholds",
         _ => "faults",
     };
     (family, trace(family, random))
@@ -73,10 +69,9 @@ pub fn generated(seed: u64, index: u64) -> (&'static str, Vec<u8>) {
 
 fn trace(family: &str, mut random: Random) -> Vec<u8> {
     let mut maker = match family {
-        "two engines"
-        | "two engines, thresholds"
-        | "two engines, refused"
-        | "two engines, damaged" => Maker::with_two_engines(random),
+        "two engines" | "two engines, refused" | "two engines, damaged" => {
+            Maker::with_two_engines(random)
+        }
         "other form" if random.chance(50) => Maker::with_two_engines(random),
         _ => Maker::new(random),
     };
@@ -116,7 +111,6 @@ fn trace(family: &str, mut random: Random) -> Vec<u8> {
                 faults::fault(&mut maker);
             }
         }
-        "thresholds" | "two engines, thresholds" => thresholds::thresholds(&mut maker),
         "clocks" => {
             for _ in 0..maker.random.between(2, 8) {
                 if maker.random.chance(60) {

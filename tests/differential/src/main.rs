@@ -17,14 +17,11 @@ mod maker;
 mod observe;
 mod observe_pairs;
 mod observe_steps;
-mod observe_thresholds;
 mod pair_cases;
 mod pairs;
 mod pokes;
 mod queues;
 mod situations;
-mod threshold_cases;
-mod thresholds;
 
 use std::io::Write;
 use std::path::PathBuf;

@@ -12,7 +12,6 @@ use shared::coverage::{Counts, CDMACR_BITS, CDMASR_BITS};
 use shared::key_hole::{self, BY_BTT};
 use shared::registers::{none_at, CDMACR, CDMASR, CHAIN};
 use shared::settings::{BEATS, WIDTHS};
-use shared::threshold;
 
 use crate::coverage::WORDS;
 use crate::maker::MEMORY;
@@ -294,9 +293,8 @@ fn before(replay: &Replay, record: &Record<&[u8]>, memo: &mut Memo, coverage: &m
         }
         Record::Read { offset } => {
             coverage.read(u32::from(*offset), engine);
-            threshold::see_read(engine, u32::from(*offset), coverage);
         }
-        Record::Steps { .. } => memo.own[turn(replay)].count.run(),
+        Record::Steps { .. } => {}
         Record::Bus(bus) => {
             let out = fields_out(bus);
             coverage.see_if(!out.is_empty() && bus.bits & 1 == 0, "AR refused in reset");
@@ -320,8 +318,6 @@ fn register_write(engine: &Engine, offset: u16, value: u32, own: &mut Own, cover
     let mut after = engine.clone();
     let answer = after.write(u32::from(offset), value);
     key_hole::see_write(engine, u32::from(offset), value, &after, coverage);
-    threshold::see_write(engine, u32::from(offset), value, &after, coverage);
-    own.count.write(engine, (u32::from(offset), value), answer, &after);
     match offset {
         0x00 if value & 4 != 0 => {
             reset(engine, coverage);

@@ -9,7 +9,6 @@ use shared::bursts::{share, Burst, Bytes};
 use shared::coverage::{Counts, Groups};
 use shared::fault_place::at_destination;
 use shared::registers::{none_at, CDMACR, RESET};
-use shared::threshold::in_mid_count;
 
 use crate::maker::MEMORY;
 use crate::observe::{behind_zero, see_settings};
@@ -76,11 +75,6 @@ pub const ENGINES: &[&str] = &[
     "destination byte of engine 1 named by a fault while engine 2 is busy",
     "destination byte of engine 2 named by a fault while engine 1 is busy",
     "byte named by a fault of both engines",
-    "both engines in mid-count, their thresholds unlike",
-    "threshold of engine 1 set while engine 2 is in mid-count",
-    "threshold of engine 2 set while engine 1 is in mid-count",
-    "counter of engine 1 reloaded while engine 2 is in mid-count",
-    "counter of engine 2 reloaded while engine 1 is in mid-count",
 ];
 
 /// Where the two meet.
@@ -174,8 +168,6 @@ impl Pair {
         let turn = turn(replay);
         let [own, other] = [turn, 1 - turn].map(|place| &replay.engines[place]);
         let both = !own.idle() && !other.idle();
-        let unlike = own.threshold != other.threshold && in_mid_count(own) && in_mid_count(other);
-        coverage.see_if(unlike, "both engines in mid-count, their thresholds unlike");
         match record {
             Record::Settings { .. } => {}
             Record::Memory { .. } => {
@@ -228,13 +220,6 @@ impl Pair {
         if turn == 1 {
             coverage.number("answer of a write to engine 2", answers[0]);
         }
-        let mut after = own.clone();
-        after.write(offset, value);
-        let row = [
-            "threshold of engine 1 set while engine 2 is in mid-count",
-            "threshold of engine 2 set while engine 1 is in mid-count",
-        ][turn];
-        coverage.see_if(after.threshold != own.threshold && in_mid_count(other), row);
         if offset == CDMACR && value & RESET != 0 {
             self.since[1 - turn].reset = true;
             let row = [
@@ -302,12 +287,6 @@ impl Pair {
             "window met by engine 2 while engine 1 is busy",
         ][turn];
         coverage.see_if(window && !other.idle(), row);
-        let row = [
-            "counter of engine 1 reloaded while engine 2 is in mid-count",
-            "counter of engine 2 reloaded while engine 1 is in mid-count",
-        ][turn];
-        let reloaded = step.after.counter > step.before.counter;
-        coverage.see_if(reloaded && in_mid_count(other), row);
         self.since[turn] = Since::default();
         self.since[1 - turn].stepped = true;
         self.stepped = turn;

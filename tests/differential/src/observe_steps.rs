@@ -7,10 +7,8 @@ use shared::coverage::Counts;
 use shared::fault_place::see_place;
 use shared::key_hole::{see_start, BY_DESCRIPTOR};
 use shared::key_hole_bursts::see_burst;
-use shared::threshold;
 
 use crate::maker::MEMORY;
-use crate::observe_thresholds::Count;
 
 const TOP: u64 = 1 << 32;
 
@@ -49,8 +47,6 @@ pub struct Own {
     /// The tail that was replaced while busy.
     pub old_tail: Option<u32>,
     pub descriptors: u32,
-    /// What became of its interrupt threshold.
-    pub count: Count,
     /// Of source and destination of the fetched descriptor, what all bytes of the word have.
     fetched: [Written; 2],
     /// The fetched descriptor has a fixed side off the multiples.
@@ -100,8 +96,6 @@ fn touches(windows: &[Window], start: u32, count: u32) -> bool {
 
 /// Counts one step.
 pub fn one_step(step: &Step, memo: &mut Memo, coverage: &mut Counts) {
-    threshold::see_step(step.before, step.after, coverage);
-    memo.own[step.turn].count.step(step.before, step.after, coverage);
     match step.event {
         Event::None => {}
         Event::Fetch { current } => fetched(step, current, memo, coverage),

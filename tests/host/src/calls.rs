@@ -4,8 +4,7 @@ use crate::engine_desk::Call;
 use crate::queues;
 use crate::states::{address, count, pointer};
 use shared::random::Random;
-use shared::registers::{threshold, MOST_THRESHOLD};
-use shared::words::{EngineWords, CHAIN_MODE, KEY_HOLE_READ, KEY_HOLE_WRITE, THRESHOLD};
+use shared::words::{EngineWords, CHAIN_MODE, KEY_HOLE_READ, KEY_HOLE_WRITE};
 
 const REGISTERS: [u32; 7] = [0x00, 0x04, 0x08, 0x10, 0x18, 0x20, 0x28];
 
@@ -52,18 +51,6 @@ fn mode(random: &mut Random, words: &EngineWords) -> u32 {
     }
 }
 
-/// A field of CDMACR: none as often as not, so that counts go on, else the threshold that is there, a
-/// small one or any.
-pub fn field(random: &mut Random, words: &EngineWords) -> u32 {
-    match random.below(12) {
-        0..=5 => 0,
-        6 => words[THRESHOLD] & MOST_THRESHOLD,
-        7..=9 => random.between(1, 5),
-        10 => MOST_THRESHOLD,
-        _ => random.between(1, MOST_THRESHOLD),
-    }
-}
-
 /// A value that fits the register at `offset`, as often as not with any other bits.
 pub fn value(random: &mut Random, offset: u32, words: &EngineWords, memory: u32) -> u32 {
     let copy = [address(random, memory), address(random, memory), count(random)];
@@ -72,8 +59,7 @@ pub fn value(random: &mut Random, offset: u32, words: &EngineWords, memory: u32)
         // Reset, mode and enables; a reset is rare, or nothing goes deep.
         0x00 => {
             let reset = u32::from(random.chance(8)) << 2;
-            let enables = random.below(2) << 12 | random.below(2) << 14;
-            reset | mode(random, words) | enables | threshold(field(random, words))
+            reset | mode(random, words) | random.below(2) << 12 | random.below(2) << 14
         }
         0x04 => random.below(2) << 12 | random.below(2) << 14,
         0x08 | 0x10 => pointer(random, memory) | random.below(64),

@@ -9,7 +9,6 @@ use shared::coverage::{
 };
 use shared::settings;
 use shared::table::{print_row, print_table};
-use shared::threshold;
 
 use crate::situations::SITUATIONS;
 use crate::spoil::KINDS;
@@ -113,7 +112,7 @@ impl Coverage {
         let beside = beside.flat_map(|(at, list)| list.iter().map(move |(a, b)| (at, *a, *b)));
         let names = SITUATIONS.iter().flat_map(|(_, names)| names.iter().copied());
         Coverage {
-            counts: Counts::new(&[NUMBERED, threshold::NUMBERED].concat(), names),
+            counts: Counts::new(NUMBERED, names),
             answers: answers.map(|row| (row, 0)).collect(),
             beside: beside.map(|row| (row, 0)).collect(),
             settings: [[[0; 8]; 6]; WITH_SETTINGS],
@@ -176,7 +175,7 @@ impl Coverage {
             let row = row.map(|((_, given, held), count)| (format!("{given} over {held}"), *count));
             zeros += print_row(&format!("answers of {name} where another held too"), row.collect());
         }
-        zeros += self.print_numbers(NUMBERED) + self.print_numbers(threshold::NUMBERED);
+        zeros += self.print_numbers(NUMBERED);
         let lowest = self.lowest.iter().enumerate().map(|(flag, count)| (flag.to_string(), *count));
         zeros += print_row("lowest flag (0: also where none is up)", lowest.collect());
         let lines = self.lines.iter().enumerate();

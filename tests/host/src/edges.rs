@@ -9,11 +9,11 @@ use crate::engine_desk::{Call, EngineDesk};
 use crate::monitor_desk::MonitorDesk;
 use crate::plans::{plan, Transfer};
 use crate::spoil::KINDS;
-use crate::states::in_phase;
+use crate::states::{fresh, in_phase};
 use shared::random::Random;
 use shared::settings::{BEATS, WIDTHS};
 use shared::words::{
-    fresh, EngineWords, CHAIN_MODE, COMPLETE_ENABLE, COMPLETE_INTERRUPT, ERROR_BIT, ERROR_BITS,
+    EngineWords, CHAIN_MODE, COMPLETE_ENABLE, COMPLETE_INTERRUPT, ERROR_BIT, ERROR_BITS,
     ERROR_ENABLE, ERROR_INTERRUPT, FETCH, IDLE, MOVE, MOVED, PHASE, SOURCE, TRUTHS, UPDATES,
 };
 
@@ -124,7 +124,7 @@ pub fn no_engines(random: &mut Random, coverage: &mut Coverage) -> Result<(), St
     Ok(())
 }
 
-pub fn every_call(
+fn every_call(
     desk: &mut EngineDesk,
     words: &EngineWords,
     coverage: &mut Coverage,

@@ -52,7 +52,7 @@ impl Side {
         let (memory_bytes, window_numbers) = (self.memory.len(), self.windows.len());
         let engine = self.engine.pointer();
         let (memory, windows) = (self.memory.pointer(), self.windows.pointer());
-        // SAFETY: the header: whatever the numbers are, a call reaches the 24 words, the memory's
+        // SAFETY: the header: whatever the numbers are, a call reaches the 22 words, the memory's
         // bytes and the windows' numbers alone, and all of them are lent here with their lengths.
         unsafe {
             match call {

@@ -2,7 +2,6 @@
 
 use crate::clock_edges;
 use crate::clocks::clocks;
-use crate::counted;
 use crate::counts;
 use crate::coverage::Coverage;
 use crate::edges;
@@ -14,13 +13,12 @@ use crate::pairs;
 use crate::plans;
 use crate::queue_edges;
 use crate::sessions::session;
-use crate::threshold_edges;
 use shared::random::Random;
 
 type Case = fn(&mut Random, &mut Coverage) -> Result<(), String>;
 
 /// Cases that every run takes once.
-const ONCE: [(&str, Case); 26] = [
+const ONCE: [(&str, Case); 21] = [
     ("registers", edges::registers),
     ("interrupts", edges::interrupts),
     ("faults", edges::faults),
@@ -34,23 +32,18 @@ const ONCE: [(&str, Case); 26] = [
     ("key hole sick words", queue_edges::sick_words),
     ("key hole two sick bytes", queue_edges::two_sick_bytes),
     ("key hole pieces", queue_edges::pieces),
-    ("threshold words", threshold_edges::words),
-    ("threshold writes", threshold_edges::writes),
-    ("threshold updates", threshold_edges::updates),
-    ("threshold and what is not counted", threshold_edges::not_counted),
     ("clock fields", clock_edges::clock_fields),
     ("flags", clock_edges::flags),
     ("most memory", large::most_memory),
     ("longest transfer", large::longest_transfer),
     ("longest runs", large::longest_runs),
     ("runs joined at the limits", joined::at_the_limits),
-    ("runs joined across reloads", joined::across_reloads),
     ("longest plans", plans::longest),
     ("longest counts", counts::longest),
 ];
 
 /// Families of random cases, in turn.
-const RANDOM: [(&str, Case); 11] = [
+const RANDOM: [(&str, Case); 10] = [
     ("session", session),
     ("lone calls", lone_calls),
     ("session", session),
@@ -61,7 +54,6 @@ const RANDOM: [(&str, Case); 11] = [
     ("runs joined", joined::joined),
     ("two engines", pairs::pairs),
     ("judged groups beside steps", judged::beside_steps),
-    ("counted chains", counted::counted),
 ];
 
 /// How many cases come before the random ones.

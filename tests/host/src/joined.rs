@@ -9,20 +9,15 @@ use crate::large::{fix, moving};
 use crate::queues::any_fixed;
 use crate::sessions::start;
 use crate::spoil::KINDS;
-use crate::states;
+use crate::states::{self, fresh};
 use crate::surroundings::{put_descriptor, windows};
-use shared::interface::{Ran, Stepped};
+use shared::interface::Ran;
 use shared::random::Random;
-use shared::record::descriptor;
 use shared::settings;
 use shared::words::{
-    fresh, BEATS, CHAIN_MODE, COUNTER, CURRENT, ERROR_BIT, FETCH, IDLE, KEY_HOLE_READ,
-    KEY_HOLE_WRITE, MOVE, MOVED, PHASE, TAIL, THRESHOLD, WIDTH,
+    BEATS, CURRENT, ERROR_BIT, FETCH, IDLE, KEY_HOLE_READ, KEY_HOLE_WRITE, MOVE, MOVED, PHASE,
+    WIDTH,
 };
-
-const UPDATE_EVENT: u32 = 4;
-/// The status word of a good update.
-const COMPLETE: u32 = 1 << 31;
 
 /// Single steps compare all memory each, so longer runs go without.
 const MOST_SINGLE_STEPS: u32 = 4_000;
@@ -105,41 +100,6 @@ pub fn at_the_limits(random: &mut Random, coverage: &mut Coverage) -> Result<(),
     Ok(())
 }
 
-/// A chain without an end: each of its descriptors copies the one before it as it was at first, so
-/// none is found stale. One update in three steps, to thresholds that runs end at and pass.
-pub fn across_reloads(_: &mut Random, coverage: &mut Coverage) -> Result<(), String> {
-    let (descriptors, kept) = (4, 512);
-    let mut desk = EngineDesk::new(&fresh(4, 16), 1024);
-    for at in 0..descriptors {
-        let before = (at + descriptors - 1) % descriptors * 64;
-        let next = (at + 1) % descriptors * 64;
-        let bytes = descriptor(next, kept + before, before, 64, 0, 0);
-        desk.put(at * 64, &bytes);
-        desk.put(kept + at * 64, &bytes);
-    }
-    let mut words = fresh(4, 16);
-    words[CHAIN_MODE] = 1;
-    words[PHASE] = FETCH;
-    words[TAIL] = kept;
-    for (threshold, counter) in [(1, 1), (2, 2), (2, 1), (3, 2), (5, 5), (255, 255), (255, 1)] {
-        [words[THRESHOLD], words[COUNTER]] = [threshold, counter];
-        desk.set_words(&words);
-        let reload = 3 * counter as u16;
-        for most in [
-            [reload - 1, 1],
-            [reload, 0],
-            [reload - 1, 2],
-            [reload, 3 * threshold as u16],
-            [reload + 1, 6 * threshold as u16 - 1],
-            [1, 65_534],
-            [40_000, 25_535],
-        ] {
-            join(&desk, &most, coverage)?;
-        }
-    }
-    Ok(())
-}
-
 /// Runs one after the other, on a copy of the desk.
 fn runs(
     desk: &EngineDesk,
@@ -173,10 +133,6 @@ fn joint(most: u16, ran: &Ran, desk: &EngineDesk, coverage: &mut Coverage) {
         31 => "joint before a good update",
         _ => "joint between a failure and its update",
     });
-    let mid = words[COUNTER] < words[THRESHOLD];
-    coverage.see_if(mid && words[PHASE] != IDLE, "joint in mid-count, threshold above 1");
-    let reloaded = words[PHASE] == FETCH && words[THRESHOLD] > 1 && !mid;
-    coverage.see_if(reloaded, "joint right after a reload of a threshold above 1");
     if words[PHASE] != MOVE || !any_fixed(&words) {
         return;
     }
@@ -207,9 +163,6 @@ fn join(desk: &EngineDesk, budgets: &[u16], coverage: &mut Coverage) -> Result<(
     if one.steps <= MOST_SINGLE_STEPS {
         single_steps(desk, sum, &one, &whole, coverage)?;
     }
-    if one.answer == 0 {
-        see_reloads(desk, sum, coverage);
-    }
     see(desk, &whole, budgets, &one, coverage);
     Ok(())
 }
@@ -235,20 +188,6 @@ fn single_steps(
         return Err(format!("{told}\n  {}", single.beside(whole)));
     }
     Ok(())
-}
-
-/// How often a run of so many steps reloads its counter, from its good updates.
-fn see_reloads(desk: &EngineDesk, most: u16, coverage: &mut Coverage) {
-    let [threshold, counter] = [THRESHOLD, COUNTER].map(|at| desk.words()[at]);
-    if threshold == 1 {
-        return;
-    }
-    let good = |event: &&Stepped| event.event == UPDATE_EVENT && event.second == COMPLETE;
-    let good = desk.events(most).iter().filter(good).count() as u32;
-    let once = "runs joined across a reload of a threshold above 1";
-    coverage.see_if(good >= counter, once);
-    let twice = "runs joined across two reloads or more of a threshold above 1";
-    coverage.see_if(good >= counter + threshold, twice);
 }
 
 fn see(desk: &EngineDesk, whole: &EngineDesk, budgets: &[u16], one: &Ran, coverage: &mut Coverage) {

@@ -5,7 +5,7 @@ use independent::memory::{LONGEST as MOST_MEMORY, MOST_WINDOWS};
 use shared::bursts::{sick, Burst, Side};
 use shared::interface::{belikumba_judge, Judged, Stepped};
 use shared::random::Random;
-use shared::words::{self, fresh, EngineWords, MOVE};
+use shared::words::{self, EngineWords, MOVE};
 
 use crate::coverage::{Coverage, Function};
 use crate::engine_desk::{Call, EngineDesk, Given};
@@ -112,7 +112,7 @@ fn window_counts(coverage: &mut Coverage) -> Result<(), String> {
 /// Steps of engines that move; a fault names what the library's own judgement of its bytes does.
 pub fn beside_steps(random: &mut Random, coverage: &mut Coverage) -> Result<(), String> {
     let room = random.pick(&[0, 31, 500, 4096 + 900]);
-    let mut desk = EngineDesk::new(&fresh(4, 16), room as usize);
+    let mut desk = EngineDesk::new(&states::fresh(4, 16), room as usize);
     for _ in 0..12 {
         let words = states::in_phase(random, room, MOVE);
         let mut numbers = windows(random, &words, room);

@@ -5,10 +5,11 @@ use independent::memory::LONGEST as MOST_MEMORY;
 use crate::coverage::Coverage;
 use crate::engine_desk::{Call, EngineDesk};
 use crate::spoil::KINDS;
+use crate::states::fresh;
 use shared::random::Random;
 use shared::words::{
-    fresh, EngineWords, CHAIN_MODE, CURRENT, DESTINATION, FETCH, KEY_HOLE_READ, KEY_HOLE_WRITE,
-    MOVE, MOVED, PHASE, SOURCE, TAIL, TOTAL, WIDTH,
+    EngineWords, CHAIN_MODE, CURRENT, DESTINATION, FETCH, KEY_HOLE_READ, KEY_HOLE_WRITE, MOVE,
+    MOVED, PHASE, SOURCE, TAIL, TOTAL, WIDTH,
 };
 
 /// A simple transfer with the largest settings, in its midst.

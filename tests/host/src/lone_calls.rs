@@ -10,12 +10,12 @@ use crate::surroundings::{put_descriptor, windows};
 use shared::interface::ENGINE_WORDS;
 use shared::random::Random;
 use shared::settings;
-use shared::words::{fresh, EngineWords, BEATS, CURRENT, FETCH, PHASE, WIDTH};
+use shared::words::{EngineWords, BEATS, CURRENT, FETCH, PHASE, WIDTH};
 
 /// Some engines in turn beside one memory, each called in every way.
 pub fn lone_calls(random: &mut Random, coverage: &mut Coverage) -> Result<(), String> {
     let room = random.pick(&[0, 31, 64, 500, 4096, 4096 + 900]);
-    let mut desk = EngineDesk::new(&fresh(4, 16), room as usize);
+    let mut desk = EngineDesk::new(&states::fresh(4, 16), room as usize);
     let bytes = random.bytes(room);
     desk.put(0, &bytes);
     for _ in 0..12 {

@@ -4,7 +4,6 @@
 mod calls;
 mod clock_edges;
 mod clocks;
-mod counted;
 mod counts;
 mod coverage;
 mod edges;
@@ -29,7 +28,6 @@ mod situations;
 mod spoil;
 mod states;
 mod surroundings;
-mod threshold_edges;
 mod vast;
 
 use std::process::ExitCode;

@@ -8,17 +8,15 @@ use independent::memory::LONGEST as MOST_MEMORY;
 use shared::coverage::CDMACR_BITS;
 use shared::interface::Value;
 use shared::key_hole::{self, BY_BTT};
-use shared::registers::{none_at, CDMACR, CHAIN, MOST_THRESHOLD};
-use shared::threshold;
+use shared::registers::{none_at, CDMACR, CHAIN};
 
 use crate::coverage::{Coverage, Function};
 use crate::engine_desk::{Call, Given};
 use crate::observe_steps;
 use shared::words::{
-    self, EngineWords, BEATS, CHAIN_MODE, COMPLETE_ENABLE, COMPLETE_INTERRUPT, COUNTER,
-    COUNT_REGISTER, CURRENT, DESTINATION, DESTINATION_REGISTER, ERROR_BIT, ERROR_ENABLE,
-    ERROR_INTERRUPT, IDLE, MOVE, MOVED, PHASE, SOURCE, SOURCE_REGISTER, TAIL, THRESHOLD, TOTAL,
-    WIDTH,
+    self, EngineWords, BEATS, CHAIN_MODE, COMPLETE_ENABLE, COMPLETE_INTERRUPT, COUNT_REGISTER,
+    CURRENT, DESTINATION, DESTINATION_REGISTER, ERROR_BIT, ERROR_ENABLE, ERROR_INTERRUPT, IDLE,
+    MOVE, MOVED, PHASE, SOURCE, SOURCE_REGISTER, TAIL, TOTAL, WIDTH,
 };
 
 /// What was changed since the last step or run.
@@ -70,7 +68,6 @@ pub fn engine_call(seen: &Seen, coverage: &mut Coverage) {
         Call::Read { offset } => {
             if let Some(engine) = taken(seen.before) {
                 coverage.read(offset, &engine);
-                threshold::see_read(&engine, offset, coverage);
             }
             if let (CDMACR, Given::Read(Value { answer: 0, value })) = (offset, seen.given) {
                 coverage.bits(CDMACR_BITS, value);
@@ -119,13 +116,6 @@ fn edges(words: &EngineWords, coverage: &mut Coverage) {
     }
     coverage.see_if(words[COUNT_REGISTER] == MOST_BYTES, "count register of 8,388,607");
     coverage.see_if(words[CURRENT] == u32::MAX - 63, "current pointer of 2^32 - 64");
-    let (threshold, counter) = (words[THRESHOLD], words[COUNTER]);
-    let full = counter == threshold;
-    coverage.see_if(full && threshold == MOST_THRESHOLD, "threshold and counter of 255");
-    let low = counter == 1 && threshold == MOST_THRESHOLD;
-    coverage.see_if(low, "counter of 1 at a threshold of 255");
-    coverage.see_if(full && threshold == 2, "threshold and counter of 2");
-    coverage.see_if(counter + 1 == threshold, "counter one below its threshold");
 }
 
 /// The engine of the words, if it is one that is taken.
@@ -143,7 +133,6 @@ fn write(seen: &Seen, offset: u32, value: u32, answer: u32, coverage: &mut Cover
     coverage.see_if(offset > 0x30, "offset above 0x30");
     if let Some(after) = words::engine(after) {
         key_hole::see_write(&engine, offset, value, &after, coverage);
-        threshold::see_write(&engine, offset, value, &after, coverage);
     }
     let busy = before[PHASE] != IDLE;
     let cleared = |at: usize| before[at] == 1 && after[at] == 0;

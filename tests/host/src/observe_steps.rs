@@ -14,7 +14,6 @@ use shared::fault_place::see_place;
 use shared::interface::{Ran, Stepped};
 use shared::key_hole::{self, BY_DESCRIPTOR};
 use shared::key_hole_bursts::see_burst;
-use shared::threshold;
 use shared::words::{
     self, EngineWords, BEATS, COMPLETE_INTERRUPT, CURRENT, DESTINATION, ERROR_BIT, ERROR_INTERRUPT,
     FETCH, IDLE, MOVE, PHASE, SOURCE, TAIL, WIDTH,
@@ -95,7 +94,6 @@ fn step(seen: &Seen, stepped: &Stepped, coverage: &mut Coverage) {
     if stepped.event == 0 {
         return;
     }
-    threshold::see_step(&engine(before), &engine(after), coverage);
     coverage.see_if(seen.changed.longer, "memory longer than at the step before");
     coverage.see_if(seen.changed.shorter, "memory shorter than at the step before");
     coverage.see_if(seen.changed.bytes, "other bytes than at the step before");

@@ -12,19 +12,16 @@ use shared::random::Random;
 use shared::record::descriptor;
 use shared::settings;
 use shared::words::{
-    self, fresh, EngineWords, BEATS, CHAIN_MODE, COUNTER, CURRENT, DESTINATION, FETCH,
-    KEY_HOLE_READ, KEY_HOLE_WRITE, MOVE, PHASE, SOURCE, TAIL, THRESHOLD, TOTAL, WIDTH,
+    self, EngineWords, BEATS, CHAIN_MODE, CURRENT, DESTINATION, FETCH, KEY_HOLE_READ,
+    KEY_HOLE_WRITE, MOVE, PHASE, SOURCE, TAIL, TOTAL, WIDTH,
 };
 
 use crate::coverage::{Coverage, Function};
 use crate::lent::Lent;
 use crate::queues;
 use crate::reference;
-use crate::states::{threshold_and_counter, well_formed};
+use crate::states::{fresh, well_formed};
 use crate::surroundings::windows;
-
-/// The status word of a good update.
-const COMPLETE: u32 = 1 << 31;
 
 /// Two engines with all that is lent to their calls.
 #[derive(Clone, PartialEq)]
@@ -55,7 +52,7 @@ impl Board {
     fn step(&mut self, place: usize) -> Stepped {
         let (bytes, numbers) = (self.memory.len(), self.windows.len());
         let (engine, memory) = (self.engines[place].pointer(), self.memory.pointer());
-        // SAFETY: the header: a call reaches the 24 words, the memory's bytes and the windows'
+        // SAFETY: the header: a call reaches the 22 words, the memory's bytes and the windows'
         // numbers alone, and all of them are lent here with their lengths.
         unsafe { interface::belikumba_step(engine, memory, bytes, self.windows.pointer(), numbers) }
     }
@@ -286,7 +283,6 @@ fn some_engine(
         return well_formed(random, room);
     }
     [words[KEY_HOLE_READ], words[KEY_HOLE_WRITE]] = queues::any_bits(random);
-    [words[THRESHOLD], words[COUNTER]] = threshold_and_counter(random);
     if random.chance(50) {
         [words[SOURCE], words[DESTINATION], words[TOTAL]] = transfer(random, &words, part, room);
         // Neither total nor start is out of what an engine may have.
@@ -355,18 +351,9 @@ fn see_apart(alone: &Alone, coverage: &mut Coverage) {
         let window = steps.iter().any(window) && !other.writes.is_empty();
         coverage.see_if(window, "apart, one meets a window");
     }
-    let counted = [0, 1].map(|place| counted(&alone.steps[place]));
-    let row = "apart, both count to thresholds that differ";
-    coverage.see_if(matches!(counted, [Some(one), Some(other)] if one != other), row);
     let idle = [0, 1].map(|place| alone.ends[place].engines()[place].idle());
     coverage.see_if(both && idle == [true; 2], "apart, both idle in the end");
     coverage.see_if(both && idle == [false; 2], "apart, both stopped in the midst");
-}
-
-/// The threshold above 1 that good updates among the steps count to.
-fn counted(steps: &[Taken]) -> Option<u32> {
-    let good = |taken: &&Taken| matches!(taken.step.event, Event::Update { word: COMPLETE, .. });
-    steps.iter().find(good).map(|taken| taken.before.threshold).filter(|threshold| *threshold > 1)
 }
 
 /// The bytes of memory that a failed step judged and did not read.

@@ -8,13 +8,14 @@ use crate::coverage::Coverage;
 use crate::edges::states;
 use crate::engine_desk::{Call, EngineDesk};
 use crate::large::fix;
+use crate::states::fresh;
 use shared::random::Random;
 use shared::record::descriptor;
 use shared::registers::{BTT, CDMACR};
 use shared::settings::{BEATS, WIDTHS};
 use shared::words::{
-    fresh, EngineWords, CHAIN_MODE, DESTINATION_REGISTER, FETCH, KEY_HOLE_READ, KEY_HOLE_WRITE,
-    MOVE, MOVED, PHASE, SOURCE, SOURCE_REGISTER, TOTAL,
+    EngineWords, CHAIN_MODE, DESTINATION_REGISTER, FETCH, KEY_HOLE_READ, KEY_HOLE_WRITE, MOVE,
+    MOVED, PHASE, SOURCE, SOURCE_REGISTER, TOTAL,
 };
 
 /// Which sides are fixed.

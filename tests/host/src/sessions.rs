@@ -11,9 +11,8 @@ use crate::spoil::KINDS;
 use crate::states::{self, address};
 use crate::surroundings::{calm_descriptor, descriptor, put_descriptor, windows};
 use shared::random::Random;
-use shared::registers::threshold;
 use shared::settings;
-use shared::words::{fresh, CHAIN_MODE, CURRENT, ERROR_BIT, FETCH, IDLE, PHASE};
+use shared::words::{CHAIN_MODE, CURRENT, ERROR_BIT, FETCH, IDLE, PHASE};
 
 const CONTROL: u32 = 0x00;
 const CURRENT_REGISTER: u32 = 0x08;
@@ -22,7 +21,7 @@ const TAIL_REGISTER: u32 = 0x10;
 pub fn session(random: &mut Random, coverage: &mut Coverage) -> Result<(), String> {
     let (width, beats) = settings::listed(random);
     let room = random.pick(&[64, 300, 1024, 4096 + 700, 3 * 4096]);
-    let mut desk = EngineDesk::new(&fresh(width, beats), room as usize);
+    let mut desk = EngineDesk::new(&states::fresh(width, beats), room as usize);
     let bytes = random.bytes(room);
     desk.put(0, &bytes);
     let calm = random.chance(50);
@@ -102,7 +101,7 @@ pub fn start(
     }
     let enables = random.below(2) << 12 | random.below(2) << 14;
     let [read, write] = queues::any_bits(random);
-    let control = enables | read << 4 | write << 5 | threshold(calls::field(random, &words));
+    let control = enables | read << 4 | write << 5;
     if random.chance(40) {
         desk.call(Call::Write { offset: CONTROL, value: control }, coverage)?;
         let words = desk.words();

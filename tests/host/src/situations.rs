@@ -1,6 +1,6 @@
 // The named rows of the coverage table. The observers say when each of them is met.
 
-use shared::{fault_place, key_hole, key_hole_bursts, threshold};
+use shared::{fault_place, key_hole, key_hole_bursts};
 
 pub const SITUATIONS: &[(&str, &[&str])] = &[
     (
@@ -50,10 +50,6 @@ pub const SITUATIONS: &[(&str, &[&str])] = &[
             "destination + moved of 2^32 - 1",
             "count register of 8,388,607",
             "current pointer of 2^32 - 64",
-            "threshold and counter of 2",
-            "threshold and counter of 255",
-            "counter of 1 at a threshold of 255",
-            "counter one below its threshold",
         ],
     ),
     (
@@ -112,9 +108,6 @@ pub const SITUATIONS: &[(&str, &[&str])] = &[
             "last of sixteen windows alone over a group",
         ],
     ),
-    ("interrupt threshold written", threshold::WRITES),
-    ("interrupt threshold and counter read", threshold::READS),
-    ("good updates counted", threshold::STEPS),
     ("key hole bits written", key_hole::WRITES),
     ("bursts with a fixed side", key_hole_bursts::BURSTS),
     ("bursts with a fixed side, off the multiples of W", key_hole_bursts::BURSTS_OFF_THE_MULTIPLES),
@@ -210,10 +203,6 @@ pub const SITUATIONS: &[(&str, &[&str])] = &[
             "runs joined of 65,535 steps in all",
             "runs joined that take 65,535 steps",
             "runs joined, above 65,535 steps in all",
-            "joint in mid-count, threshold above 1",
-            "joint right after a reload of a threshold above 1",
-            "runs joined across a reload of a threshold above 1",
-            "runs joined across two reloads or more of a threshold above 1",
         ],
     ),
     (
@@ -228,7 +217,6 @@ pub const SITUATIONS: &[(&str, &[&str])] = &[
             "apart, a fixed side of one engine alone",
             "apart, one judges what the other writes",
             "apart, one meets a window",
-            "apart, both count to thresholds that differ",
             "apart, both idle in the end",
             "apart, both stopped in the midst",
             "engines that meet",

@@ -3,12 +3,10 @@
 
 use independent::cut::LONGEST as MOST_BYTES;
 use shared::random::Random;
-use shared::registers::MOST_THRESHOLD;
 use shared::words::{
-    EngineWords, CHAIN_MODE, COMPLETE_ENABLE, COMPLETE_INTERRUPT, COUNTER, COUNT_REGISTER, CURRENT,
+    EngineWords, CHAIN_MODE, COMPLETE_ENABLE, COMPLETE_INTERRUPT, COUNT_REGISTER, CURRENT,
     DESTINATION, ERROR_BIT, ERROR_BITS, ERROR_ENABLE, ERROR_INTERRUPT, FETCH, HELD_NEXT, IDLE,
-    KEY_HOLE_READ, KEY_HOLE_WRITE, MOVE, MOVED, NEXT, PHASE, SOURCE, TAIL, THRESHOLD, TOTAL,
-    UPDATES,
+    KEY_HOLE_READ, KEY_HOLE_WRITE, MOVE, MOVED, NEXT, PHASE, SOURCE, TAIL, TOTAL, UPDATES,
 };
 
 pub struct Kind {
@@ -17,7 +15,7 @@ pub struct Kind {
     pub spoil: fn(&mut EngineWords, &mut Random),
 }
 
-pub const KINDS: [Kind; 37] = [
+pub const KINDS: [Kind; 31] = [
     Kind { name: "current misaligned", spoil: |words, random| misalign(words, random, CURRENT) },
     Kind { name: "tail misaligned", spoil: |words, random| misalign(words, random, TAIL) },
     Kind { name: "next misaligned", spoil: |words, random| misalign(words, random, NEXT) },
@@ -165,25 +163,6 @@ pub const KINDS: [Kind; 37] = [
     },
     Kind { name: "total outside a move", spoil: |words, random| leave(words, random, TOTAL) },
     Kind { name: "moved outside a move", spoil: |words, random| leave(words, random, MOVED) },
-    Kind { name: "counter of 0", spoil: |words, _| words[COUNTER] = 0 },
-    Kind {
-        name: "counter above its threshold",
-        spoil: |words, random| words[COUNTER] = above(random, words[THRESHOLD]),
-    },
-    Kind { name: "threshold of 0", spoil: |words, _| words[THRESHOLD] = 0 },
-    // What is left of words that are two too few.
-    Kind {
-        name: "threshold and counter of 0",
-        spoil: |words, _| words[THRESHOLD..=COUNTER].fill(0),
-    },
-    Kind {
-        name: "threshold above 255",
-        spoil: |words, random| words[THRESHOLD] = above(random, MOST_THRESHOLD),
-    },
-    Kind {
-        name: "threshold and counter above 255",
-        spoil: |words, random| words[THRESHOLD..=COUNTER].fill(above(random, MOST_THRESHOLD)),
-    },
 ];
 
 fn misalign(words: &mut EngineWords, random: &mut Random, pointer: usize) {
@@ -197,17 +176,6 @@ fn too_many(random: &mut Random) -> u32 {
         0 => MOST_BYTES + 1,
         1 => 1 << random.between(23, 31),
         _ => random.between(MOST_BYTES + 1, u32::MAX - 1),
-    }
-}
-
-/// A number above `most`, which is at most 255: the next, or one whose low byte would be as low.
-fn above(random: &mut Random, most: u32) -> u32 {
-    match random.below(4) {
-        0 => most + 1,
-        1 => MOST_THRESHOLD + 1,
-        2 => 1 << random.between(8, 31) | random.below(most + 1),
-        _ if random.chance(50) => u32::MAX,
-        _ => random.u32() | 1 << 8,
     }
 }
 

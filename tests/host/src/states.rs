@@ -1,17 +1,25 @@
 // Well-formed engines of every phase, at the edges as often as within.
 
 use independent::cut::LONGEST as MOST_BYTES;
+use shared::interface::ENGINE_WORDS;
 use shared::random::Random;
-use shared::registers::MOST_THRESHOLD;
 use shared::settings;
 use shared::words::{
-    fresh, EngineWords, CHAIN_MODE, COMPLETE_ENABLE, COMPLETE_INTERRUPT, COUNTER, COUNT_REGISTER,
-    CURRENT, DESTINATION, DESTINATION_REGISTER, ERROR_BIT, ERROR_BITS, ERROR_ENABLE,
-    ERROR_INTERRUPT, FETCH, HELD_NEXT, IDLE, KEY_HOLE_READ, KEY_HOLE_WRITE, MOVE, MOVED, NEXT,
-    PHASE, SOURCE, SOURCE_REGISTER, TAIL, THRESHOLD, TOTAL, UPDATES,
+    EngineWords, BEATS, CHAIN_MODE, COMPLETE_ENABLE, COMPLETE_INTERRUPT, COUNT_REGISTER, CURRENT,
+    DESTINATION, DESTINATION_REGISTER, ERROR_BIT, ERROR_BITS, ERROR_ENABLE, ERROR_INTERRUPT, FETCH,
+    HELD_NEXT, IDLE, KEY_HOLE_READ, KEY_HOLE_WRITE, MOVE, MOVED, NEXT, PHASE, SOURCE,
+    SOURCE_REGISTER, TAIL, TOTAL, UPDATES, WIDTH,
 };
 
 use crate::queues;
+
+/// A fresh engine with these settings.
+pub fn fresh(width: u32, beats: u32) -> EngineWords {
+    let mut words = [0; ENGINE_WORDS];
+    words[WIDTH] = width;
+    words[BEATS] = beats;
+    words
+}
 
 /// A well-formed engine whose addresses are mostly within `memory` bytes.
 pub fn well_formed(random: &mut Random, memory: u32) -> EngineWords {
@@ -38,7 +46,6 @@ pub fn in_phase(random: &mut Random, memory: u32, phase: u32) -> EngineWords {
         words[TAIL] = words[CURRENT];
     }
     [words[KEY_HOLE_READ], words[KEY_HOLE_WRITE]] = queues::any_bits(random);
-    [words[THRESHOLD], words[COUNTER]] = threshold_and_counter(random);
     let copy = [address(random, memory), address(random, memory), count(random) - random.below(2)];
     let [source, destination, total] = queues::fit(random, &words, copy);
     words[SOURCE_REGISTER] = source;
@@ -69,23 +76,6 @@ pub fn in_phase(random: &mut Random, memory: u32, phase: u32) -> EngineWords {
         }
     }
     words
-}
-
-/// A threshold and a counter that fits it, both at their edges as often as within.
-pub fn threshold_and_counter(random: &mut Random) -> [u32; 2] {
-    let threshold = match random.below(10) {
-        0..=2 => 1,
-        3..=6 => random.between(2, 5),
-        7 => MOST_THRESHOLD,
-        _ => random.between(1, MOST_THRESHOLD),
-    };
-    let counter = match random.below(5) {
-        0..=1 => 1,
-        2 => threshold,
-        3 => threshold.min(2),
-        _ => random.between(1, threshold),
-    };
-    [threshold, counter]
 }
 
 /// Bytes of a transfer: mostly few, sometimes all that are allowed.

@@ -5,10 +5,11 @@
 use std::alloc::{alloc_zeroed, dealloc, Layout};
 
 use crate::reference;
+use crate::states::fresh;
 use shared::interface::{
     belikumba_judge, belikumba_plan, belikumba_run, belikumba_step, Judged, Planned, Ran, Stepped,
 };
-use shared::words::{fresh, CHAIN_MODE, FETCH, PHASE};
+use shared::words::{CHAIN_MODE, FETCH, PHASE};
 
 const TOP: usize = 1 << 32;
 /// Bytes at each end that are looked at.

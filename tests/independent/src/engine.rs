@@ -57,10 +57,6 @@ pub struct Engine {
     pub sa: u32,
     pub da: u32,
     pub btt: u32,
-    /// Good updates of a chain for each IOC_Irq.
-    pub threshold: u32,
-    /// Good updates that are left until the next IOC_Irq.
-    pub counter: u32,
     pub phase: Phase,
     pub sg_mode: bool,
     /// The source is fixed.
@@ -90,10 +86,8 @@ const SG_DEC_ERR: u32 = 10;
 // Bit numbers of both: the interrupt or its enable.
 const IOC: u32 = 12;
 const ERR: u32 = 14;
-// The lowest of bits 23..16: the threshold in CDMACR, the counter in CDMASR.
-const THRESHOLD: u32 = 16;
-const MOST_THRESHOLD: u32 = 255;
-// Bit 1 of CDMACR, which reads 1.
+// Bits 23..16 of both, which read 1 as a field, and bit 1 of CDMACR.
+const THRESHOLD: u32 = 1 << 16;
 const TAIL_ENABLE: u32 = 1 << 1;
 
 // Reading: BTT is 23 bits wide, in the register and in the descriptor.
@@ -131,7 +125,7 @@ fn copy(memory: &mut [u8], from: u32, to: u32, bytes: u32) {
 }
 
 impl Engine {
-    /// A fresh engine: simple mode, idle, threshold and counter 1, all else 0.
+    /// A fresh engine: simple mode, idle, all else 0.
     /// Reading: made with any settings; the first call on it answers 1 where they are off the lists.
     pub fn fresh(width: u32, beats: u32) -> Engine {
         Engine {
@@ -145,8 +139,6 @@ impl Engine {
             sa: 0,
             da: 0,
             btt: 0,
-            threshold: 1,
-            counter: 1,
             phase: Phase::Idle,
             sg_mode: false,
             key_hole_read: false,
@@ -176,9 +168,6 @@ impl Engine {
             return false;
         }
         if self.btt > cut::LONGEST {
-            return false;
-        }
-        if self.counter == 0 || self.counter > self.threshold || self.threshold > MOST_THRESHOLD {
             return false;
         }
         if self.in_error() && !self.idle() {
@@ -226,10 +215,9 @@ impl Engine {
         }
     }
 
-    /// CDMACR. Reading: it shows the threshold in both modes, as CDMASR does the counter.
     fn control_word(&self) -> u32 {
         TAIL_ENABLE
-            | self.threshold << THRESHOLD
+            | THRESHOLD
             | u32::from(self.sg_mode) << SG_MODE
             | u32::from(self.key_hole_read) << KEY_HOLE_READ
             | u32::from(self.key_hole_write) << KEY_HOLE_WRITE
@@ -238,7 +226,7 @@ impl Engine {
     }
 
     fn status_word(&self) -> u32 {
-        self.counter << THRESHOLD
+        THRESHOLD
             | 1 << SG_INCLUDED
             | u32::from(self.idle()) << IDLE
             | self.errors
@@ -296,9 +284,8 @@ impl Engine {
                 let changed = sg_mode != self.sg_mode
                     || key_hole_read != self.key_hole_read
                     || key_hole_write != self.key_hole_write;
-                // Reading: a write that gets 4 leaves the enables and the threshold too; one that
-                // changes none of the three bits while busy sets them; changing SGMode clears no
-                // pointer and reloads no counter.
+                // Reading: a write that gets 4 leaves the enables too; one that changes none of the
+                // three bits while busy sets them; changing SGMode clears no pointer.
                 if busy && changed {
                     return answer::BUSY;
                 }
@@ -307,7 +294,6 @@ impl Engine {
                 self.key_hole_write = key_hole_write;
                 self.ioc_enable = bit(value, IOC);
                 self.err_enable = bit(value, ERR);
-                self.set_threshold(value >> THRESHOLD & MOST_THRESHOLD);
             }
             0x04 => {
                 // Reading: writable with an error bit set, and lifts none of them.
@@ -327,15 +313,6 @@ impl Engine {
         answer::DONE
     }
 
-    /// The threshold that a good CDMACR write carries. Reading: 0 leaves threshold and counter, and
-    /// all else reloads the counter, also with the threshold that is there already.
-    fn set_threshold(&mut self, threshold: u32) {
-        if threshold != 0 {
-            self.threshold = threshold;
-            self.counter = threshold;
-        }
-    }
-
     /// CURDESC, TAILDESC, SA, DA and BTT, with no error bit set.
     fn write_transfer(&mut self, offset: u32, value: u32, busy: bool) -> u32 {
         // TAILDESC alone may be written while busy, and alone asks for chain mode.
@@ -346,8 +323,7 @@ impl Engine {
             }
             self.tail = value & POINTER_BITS;
             if !busy {
-                // Reading: current becomes next at once; a start clears no interrupt bit and
-                // reloads no counter.
+                // Reading: current becomes next at once; a start clears no interrupt bit.
                 self.current = self.next;
                 self.phase = Phase::Fetch;
             }
@@ -501,8 +477,7 @@ impl Engine {
         steps
     }
 
-    /// The phase after good bursts. Chain mode goes to update after the last one, simple mode ends
-    /// with IOC_Irq whatever the counter is.
+    /// The phase after good bursts. Chain mode goes to update after the last one, simple mode ends.
     #[inline(always)]
     fn moved_to(&mut self, transfer: Transfer) -> Phase {
         if transfer.moved < transfer.total {
@@ -692,7 +667,7 @@ impl Engine {
         memory[at..at + 4].copy_from_slice(&word.to_le_bytes());
         match outcome {
             Outcome::Complete => {
-                self.count_down();
+                self.ioc_irq = true;
                 self.next = self.held_next;
                 // Reading: after the tail, current stays at the finished descriptor.
                 if current == self.tail {
@@ -708,16 +683,5 @@ impl Engine {
         }
         // Reading: a bad update that writes its word is the event update alone.
         Event::Update { current, word }
-    }
-
-    /// Counts a good update, the tail's too. Reading: at zero IOC_Irq is set and the counter
-    /// reloads in the same step, so zero is never seen.
-    #[inline(always)]
-    fn count_down(&mut self) {
-        self.counter -= 1;
-        if self.counter == 0 {
-            self.ioc_irq = true;
-            self.counter = self.threshold;
-        }
     }
 }

@@ -130,8 +130,7 @@ fn answer_3_for_every_other_offset() {
 fn control_bits_kept() {
     for bits in 0..32u32 {
         let value = (bits & 7) << 3 | (bits >> 3 & 1) << 12 | (bits >> 4 & 1) << 14;
-        // Bits 23..16 are the threshold, which 0 leaves.
-        for extra in [0, !(1 << 2 | 7 << 3 | 1 << 12 | 1 << 14 | 255 << 16)] {
+        for extra in [0, !(1 << 2 | 7 << 3 | 1 << 12 | 1 << 14)] {
             let mut engine = fresh();
             assert_eq!(engine.write(CONTROL, value | extra), 0);
             assert_eq!(engine.read(CONTROL), (0, 0x0001_0002 | value));
@@ -357,10 +356,6 @@ fn ill_formed() -> Vec<Engine> {
         Engine { phase: moving(0, u32::MAX, 5, 1), ..fresh() },
         Engine { sg_mode: true, phase: Phase::Fetch, errors: 1 << 10, ..fresh() },
         Engine { phase: moving(0, 0, 5, 0), errors: 1 << 4, ..fresh() },
-        Engine { threshold: 0, counter: 0, ..fresh() },
-        Engine { threshold: 1, counter: 0, ..fresh() },
-        Engine { threshold: 1, counter: 2, ..fresh() },
-        Engine { threshold: 256, counter: 1, ..fresh() },
     ]
 }
 
@@ -381,8 +376,6 @@ fn well_formed_at_its_edges() {
         Engine { phase: moving(u32::MAX - 4, u32::MAX - 4, 5, 4), ..fresh() },
         Engine { errors: 1 << 4 | 1 << 10, ..fresh() },
         Engine { width: 3, beats: 0, ..fresh() },
-        Engine { threshold: 255, counter: 255, ..fresh() },
-        Engine { threshold: 255, counter: 1, ..fresh() },
     ] {
         assert!(engine.well_formed(), "{engine:?}");
     }
@@ -866,12 +859,7 @@ fn slow_step(engine: &Engine, memory: &[u8], windows: &[Window]) -> (Engine, Vec
                 halted(engine, bit)
             } else {
                 let mut after = engine.clone();
-                if engine.counter == 1 {
-                    after.ioc_irq = true;
-                    after.counter = engine.threshold;
-                } else {
-                    after.counter = engine.counter - 1;
-                }
+                after.ioc_irq = true;
                 after.next = engine.held_next;
                 if current == engine.tail {
                     after.phase = Phase::Idle;

@@ -1,6 +1,6 @@
 // include/belikumba.h, declared once more in Rust.
 
-pub const ENGINE_WORDS: usize = 24;
+pub const ENGINE_WORDS: usize = 22;
 pub const MONITOR_WORDS: usize = 14;
 
 #[repr(C)]

@@ -13,6 +13,5 @@ pub mod record;
 pub mod registers;
 pub mod settings;
 pub mod table;
-pub mod threshold;
 #[cfg(feature = "library")]
 pub mod words;

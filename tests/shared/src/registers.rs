@@ -18,19 +18,6 @@ pub const KEY_HOLE_READ: u32 = 1 << 4;
 pub const KEY_HOLE_WRITE: u32 = 1 << 5;
 pub const KEY_HOLE: u32 = KEY_HOLE_READ | KEY_HOLE_WRITE;
 
-/// The most that bits 23..16 of CDMACR hold: the field of the interrupt threshold.
-pub const MOST_THRESHOLD: u32 = 255;
-
-/// The field of a value for CDMACR.
-pub fn field(value: u32) -> u32 {
-    value >> 16 & MOST_THRESHOLD
-}
-
-/// A value for CDMACR with this threshold, its other bits 0.
-pub fn threshold(threshold: u32) -> u32 {
-    threshold << 16
-}
-
 /// Bits of CDMACR with which an engine writes itself: its mode and its fixed sides, no enables.
 pub fn kept(engine: &Engine) -> u32 {
     let bit = |set: bool, bit: u32| if set { bit } else { 0 };

@@ -32,8 +32,6 @@ pub const TOTAL: usize = 18;
 pub const MOVED: usize = 19;
 pub const KEY_HOLE_READ: usize = 20;
 pub const KEY_HOLE_WRITE: usize = 21;
-pub const THRESHOLD: usize = 22;
-pub const COUNTER: usize = 23;
 
 pub const TRUTHS: [usize; 7] = [
     CHAIN_MODE,
@@ -54,16 +52,6 @@ pub const UPDATES: [u32; 4] = [28, 29, 30, 31];
 
 /// Place of a monitor's word that no monitor has above 7: the bits of the clock before.
 pub const BITS_BEFORE: usize = 4;
-
-/// The words of a fresh engine with these settings.
-pub fn fresh(width: u32, beats: u32) -> EngineWords {
-    let mut words = [0; ENGINE_WORDS];
-    words[WIDTH] = width;
-    words[BEATS] = beats;
-    words[THRESHOLD] = 1;
-    words[COUNTER] = 1;
-    words
-}
 
 /// The engine of these words, or none where no engine has them.
 pub fn engine(words: &EngineWords) -> Option<Engine> {
@@ -111,8 +99,6 @@ pub fn engine(words: &EngineWords) -> Option<Engine> {
         sa: words[SOURCE_REGISTER],
         da: words[DESTINATION_REGISTER],
         btt: words[COUNT_REGISTER],
-        threshold: words[THRESHOLD],
-        counter: words[COUNTER],
         phase,
     })
 }
@@ -156,8 +142,6 @@ pub fn of_engine(engine: &Engine) -> EngineWords {
         transfer[3],
         u32::from(engine.key_hole_read),
         u32::from(engine.key_hole_write),
-        engine.threshold,
-        engine.counter,
     ]
 }
 

@@ -19,18 +19,14 @@ settled-requires c κs = search rules
 fits-requires : tie.Need-fits-requires
 fits-requires c κs = search rules
 
-counter-fits-requires : tie.Need-counter-fits-requires
-counter-fits-requires c κs = search rules
-
 returns : tie.Need-returns
 returns c =
-    let f = c.before in
-    let s = f.before in
+    let s = c.before in
     let a = s.before in
     let t = a.before in
-    ap₂ ◌&&◌ (ap₂ ◌&&◌ (ap₂ ◌&&◌ (ap₂ ◌&&◌ (ap₂ ◌&&◌ t.before.whole.ensures t.truths.ensures) a.aligned.ensures) s.settled.ensures) f.fits2.ensures) c.counter-fits.ensures
+    ap₂ ◌&&◌ (ap₂ ◌&&◌ (ap₂ ◌&&◌ (ap₂ ◌&&◌ t.before.whole.ensures t.truths.ensures) a.aligned.ensures) s.settled.ensures) c.fits2.ensures
 
 pub moves-spec : {M : Type 1} → statement M
 moves-spec =
     tie.close
-    (tie.spec whole-requires truths-requires aligned-requires settled-requires fits-requires counter-fits-requires returns)
+    (tie.spec whole-requires truths-requires aligned-requires settled-requires fits-requires returns)

@@ -9,14 +9,12 @@ use Rattle.spelling.proofs.sound.Tie as tie
 
 returns : tie.Need-returns
 returns c =
-    let phase = c.before in
-    let aligned = phase.before.before in
+    let w = c.before.before.before.before.before.before.args.words.now in
+    let aligned = c.before.before in
     let truths = aligned.before in
-    let w = truths.before.before.before.args.words.now in
     ap₂ ◌&&◌
-    (ap₂ ◌&&◌
     (ap (λ (t : Bool). t && leb (word w 14) most_bytes) (ap₂ ◌&&◌ (ap₂ ◌&&◌ truths.before.whole.ensures truths.truths.ensures) aligned.aligned.ensures))
-    phase.phase-sound.ensures) c.counter-fits.ensures
+    c.phase-sound.ensures
 
 pub sound-spec : {M : Type 1} → statement M
 sound-spec =
@@ -26,6 +24,5 @@ sound-spec =
     (λ c κs. search rules)
     (λ c κs. search rules)
     (λ c. search rules)
-    (λ c κs. search rules)
     (λ c κs. search rules)
     returns)

@@ -122,7 +122,6 @@ pub fn some_trace(random: &mut Random) -> Trace {
     let mut windows = 0;
     for _ in 0..random.below(60) {
         sequence += 1 + random.below(3);
-        let threshold = random.pick(&[0, 0, 0, 1, 2, 3, 255]) << 16;
         trace = match random.below(16) {
             0..=3 => {
                 let at = random.below(8) * 64;
@@ -140,10 +139,7 @@ pub fn some_trace(random: &mut Random) -> Trace {
                 windows += 1;
                 trace.sw(sequence, random.below(33000), random.below(20))
             }
-            5 => {
-                let bits = random.pick(&[0, 8, 8, 0x5000, 0x5008, 4, 16, 32, 56]);
-                trace.wr(sequence, 0, bits | threshold)
-            }
+            5 => trace.wr(sequence, 0, random.pick(&[0, 8, 8, 0x5000, 0x5008, 4, 16, 32, 56])),
             6 => trace.wr(sequence, 4, random.pick(&[1 << 12, 1 << 14, u32::MAX])),
             7 => trace.wr(sequence, 8, random.below(8) * 64),
             8 => trace.wr(sequence, 16, random.below(8) * 64),
@@ -160,7 +156,7 @@ pub fn some_trace(random: &mut Random) -> Trace {
                     let kept = if random.one_in(2) { !127 } else { u32::MAX };
                     trace
                         .wr(sequence - 5, 0, 4)
-                        .wr(sequence - 4, 0, fixed | threshold)
+                        .wr(sequence - 4, 0, fixed)
                         .wr(sequence - 3, 24, random.below(33000) & kept)
                         .wr(sequence - 2, 32, random.below(33000) & kept)
                         .wr(sequence - 1, 40, random.below(400) & kept)
@@ -168,7 +164,7 @@ pub fn some_trace(random: &mut Random) -> Trace {
                 } else {
                     trace
                         .wr(sequence - 4, 0, 4)
-                        .wr(sequence - 3, 0, 8 | fixed | threshold)
+                        .wr(sequence - 3, 0, 8 | fixed)
                         .wr(sequence - 2, 8, random.below(8) * 64)
                         .wr(sequence - 1, 16, random.below(8) * 64)
                         .st(sequence, random.below(30) as u16)
@@ -438,17 +434,7 @@ pub fn some_engine(random: &mut Random, near: u32) -> Engine {
     if random.one_in(15) {
         set_error(&mut engine, 1 + random.below(6));
     }
-    (engine.threshold, engine.counter) = some_counter(random);
     engine
-}
-
-/// A threshold and a counter, now and then not well formed.
-fn some_counter(random: &mut Random) -> (u32, u32) {
-    if random.one_in(40) {
-        return random.pick(&[(0, 0), (1, 0), (1, 2), (3, 4), (255, 256), (256, 1), (256, 256)]);
-    }
-    let threshold = random.pick(&[1, 1, 2, 2, 3, 255]);
-    (threshold, 1 + random.below(threshold))
 }
 
 /// Memory with a descriptor at every other of its places, some of them stale or of count 0, and

@@ -1,8 +1,6 @@
 use mathlib.Core.Path.{refl, sym, ◌∙◌}
 use borrow.Author.Tests.{not-true, not-false}
 use Rattle.kit.proofs.Choice.{yes, no}
-use native.Mathlib.Omega.{arith}
-use Rattle.state.proofs.WellFormed.{well-formed}
 use borrow.Author.Rules.{rules}
 use Rattle.reads.proofs.read.read.Statement.{statement}
 use Rattle.reads.proofs.read.read.Tie as tie
@@ -20,9 +18,7 @@ returns-2 : tie.Need-returns-2
 returns-2 c = yes _ (sym c.before.before.before.legal.ensures ∙ not-false _ c.before.before.if1.false) (no _ (sym c.before.well-formed-2.ensures ∙ not-true _ c.if2.true) refl)
 
 read-register-requires : tie.Need-read-register-requires
-read-register-requires c κs =
-    let well = well-formed _ (sym c.before.well-formed-2.ensures ∙ not-false _ c.if2.false) in
-    (well.threshold-small, omega (arith, well.counter-small, well.threshold-small))
+read-register-requires c κs = search rules
 
 returns-3 : tie.Need-returns-3
 returns-3 c = yes _ (sym c.before.before.before.before.legal.ensures ∙ not-false _ c.before.before.before.if1.false) (yes _ (sym c.before.before.well-formed-2.ensures ∙ not-false _ c.before.if2.false) c.read-register.ensures)

@@ -8,8 +8,8 @@ returns : tie.Need-returns
 returns c =
     let d = c.before.before in
     let b = d.before.before in
-    ap₂ ◌+◌ (ap₂ ◌+◌ (ap₂ ◌+◌ (ap₂ ◌+◌ (ap₂ ◌+◌ (ap₂ ◌+◌ b.before.before.field.ensures.0 b.before.bit-if.ensures.0) b.bit-if2.ensures.0) d.before.bit-if3.ensures.0)
-    d.bit-if4.ensures.0) c.before.bit-if5.ensures.0) c.bit-if6.ensures.0
+    ap₂ ◌+◌ (ap₂ ◌+◌ (ap₂ ◌+◌ (ap₂ ◌+◌ (ap₂ ◌+◌ (ap₂ ◌+◌ b.before.before.bit-if.ensures.0 b.before.bit-if2.ensures.0) b.bit-if3.ensures.0) d.before.bit-if4.ensures.0)
+    d.bit-if5.ensures.0) c.before.bit-if6.ensures.0) c.bit-if7.ensures.0
 
 pub read-control-spec : {M : Type 1} → statement M
 read-control-spec =

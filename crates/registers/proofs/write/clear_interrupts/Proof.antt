@@ -25,7 +25,6 @@ returns c =
       fault = t.fault;
       ioc = (b.both.ensures ∙ ap (λ (x : Bool). both (not x) t.ioc) b.before.bit.ensures) i;
       err = (c.both2.ensures ∙ ap (λ (x : Bool). both (not x) t.err) c.before.bit2.ensures) i;
-      counter = t.counter;
     }
 
 pub clear-interrupts-spec : {M : Type 1} → statement M

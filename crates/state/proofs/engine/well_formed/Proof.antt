@@ -18,9 +18,6 @@ both-requires c κs = search rules
 phase-fits-requires : tie.Need-phase-fits-requires
 phase-fits-requires c κs = search rules
 
-counter-fits-requires : tie.Need-counter-fits-requires
-counter-fits-requires c κs = search rules
-
 both-requires-2 : tie.Need-both-requires-2
 both-requires-2 c κs = search rules
 
@@ -29,9 +26,6 @@ both-requires-3 c κs = search rules
 
 both-requires-4 : tie.Need-both-requires-4
 both-requires-4 c κs = search rules
-
-both-requires-5 : tie.Need-both-requires-5
-both-requires-5 c κs = search rules
 
 returns : tie.Need-returns
 unfolding well_formed_of
@@ -46,9 +40,7 @@ well-formed-spec =
     busy-requires
     both-requires
     phase-fits-requires
-    counter-fits-requires
     both-requires-2
     both-requires-3
     both-requires-4
-    both-requires-5
     returns)

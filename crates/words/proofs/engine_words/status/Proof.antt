@@ -14,9 +14,6 @@ element-copy-out-t8 c = search rules
 element-copy-out-t12 : tie.Need-element-copy-out-t12
 element-copy-out-t12 c = search rules
 
-element-copy-out-t16 : tie.Need-element-copy-out-t16
-element-copy-out-t16 c = search rules
-
 returns : tie.Need-returns
 returns c = cc
 
@@ -28,5 +25,4 @@ status-spec =
     error-bit-requires
     element-copy-out-t8
     element-copy-out-t12
-    element-copy-out-t16
     returns)

@@ -18,7 +18,6 @@ returns c =
     ∷ s.simple.sa ∷ s.simple.da ∷ s.simple.btt
     ∷ phase.phase-number.ensures i ∷ (t i).source ∷ (t i).destination ∷ (t i).total ∷ (t i).moved
     ∷ c.before.before.truth6.ensures i ∷ c.before.truth7.ensures i
-    ∷ s.control.threshold ∷ s.status.counter
     ∷ []
 
 pub store_spec : {M : Type 1} → statement M

@@ -6,7 +6,7 @@ use Rattle.words.proofs.engine_words.store_stepped.Tie as tie
 
 returns : tie.Need-returns
 returns c =
-    let phase = c.before.before.before.before in
+    let phase = c.before.before.before in
     let bits = phase.before.before.before.before.before in
     let transfer = bits.before.before.before.before.before.before.before.before in
     let a = transfer.before.before.args in
@@ -20,7 +20,6 @@ returns c =
     ∷ word w 12 ∷ word w 13 ∷ word w 14
     ∷ phase.phase-number.ensures i ∷ (t i).source ∷ (t i).destination ∷ (t i).total ∷ (t i).moved
     ∷ word w 20 ∷ word w 21
-    ∷ word w 22 ∷ s.status.counter
     ∷ []
 
 pub store-stepped-spec : {M : Type 1} → statement M
@@ -41,7 +40,6 @@ store-stepped-spec =
     (λ c. search rules)
     (λ c. search rules)
     (λ c κs. search rules)
-    (λ c. search rules)
     (λ c. search rules)
     (λ c. search rules)
     returns)

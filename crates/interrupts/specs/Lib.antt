@@ -1,3 +1,0 @@
-pub mod Threshold
-pub mod ThresholdOne
-pub mod WorkedThreshold

@@ -7,7 +7,7 @@ use monitor::monitor::Monitor;
 
 // The fields of a clock; bit 0 of `bits` is reset-high, bit 1 valid, bit 2 ready.
 #[repr(C)]
-#[derive(Drop)]
+#[derive(Clone, Copy)]
 pub struct ClockForC {
     pub bits: u32,
     pub address: u32,

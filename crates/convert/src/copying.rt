@@ -10,7 +10,7 @@ pub const FRONT: usize = 10;
 // The first `waiting` bytes after the front are pending: read, but not handed over yet. `decided` says that what comes before
 // the trace was handed over with its first bytes; `ended` that the trace ends with the bytes read; `taken` that every write
 // was taken; `failed` that a read failed.
-#[derive(Drop)]
+#[derive(Clone, Copy)]
 pub struct Copying {
     pub waiting: usize,
     pub decided: bool,

@@ -1,5 +1,7 @@
 // The converter: a trace on standard input, on standard output the same trace with the settings that older traces relied on
 // put before it, unless it starts with its own. RULES.md, "Trace and listing". It judges nothing else.
+#![tactic(auto)]
+
 mod copying;
 mod input;
 mod output;

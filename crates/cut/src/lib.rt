@@ -1,9 +1,11 @@
 // RULES.md, "Cutting a transfer": the bytes of the burst that starts at an address. Lengths only: no sum of addresses.
+#![tactic(auto)]
+
 ghost use Rattle.std.specs.Prelude.{◌≡◌, ◌-◌, ◌*◌, ◌%◌, ◌<◌, min};
 ghost use Rattle.cut.specs.Cut.{bytes_within, burst_bytes};
 
 // One burst: its first byte and its number of bytes.
-#[derive(Drop)]
+#[derive(Clone, Copy)]
 pub struct Burst {
     pub start: u32,
     pub bytes: u32,

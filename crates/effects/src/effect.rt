@@ -76,7 +76,7 @@ pub fn memory(
         return bad(session, Answer::MemoryEnd, position);
     }
     let from_end = from + count as usize;
-    bytes::copy(&input[from..from_end], &mut memory[start..end]);
+    memory[start..end].copy_from_slice(&input[from..from_end]);
     let line = Line {
         sequence,
         word: Word::Memory,

@@ -1,4 +1,6 @@
 // RULES.md, "Descriptor and steps", key hole: bursts of a transfer with a fixed side, moved as those of crate moves are.
+#![tactic(auto)]
+
 mod good;
 mod pieces;
 

@@ -8,7 +8,7 @@ use state::engine::Engine;
 
 // The session, with the engine that is not the chosen one beside it; the place in the whole trace of the byte at `at`; and the part of the buffer, from `at` up to `filled`,
 // whose bytes are pending: read, but not used yet. `ended` says that the trace ends with them, `over` that no turn is to come.
-#[derive(Drop)]
+#[derive(Clone, Copy)]
 pub struct Flow {
     pub session: Session,
     pub other: Engine,

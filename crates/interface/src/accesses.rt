@@ -12,7 +12,7 @@ use words::engine_words::store;
 
 // An answer's number, and the value beside it, 0 beside a refusal.
 #[repr(C)]
-#[derive(Drop)]
+#[derive(Clone, Copy)]
 pub struct ValueForC {
     pub answer: u32,
     pub value: u32,

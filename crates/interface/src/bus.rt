@@ -9,7 +9,7 @@ use monitor::monitor::bus_clock;
 
 // An answer's number, how many flags are up and the lowest of them, both 0 beside a refusal.
 #[repr(C)]
-#[derive(Drop)]
+#[derive(Clone, Copy)]
 pub struct ClockedForC {
     pub answer: u32,
     pub count: u32,

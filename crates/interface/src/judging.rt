@@ -8,7 +8,7 @@ use places::locate::{locate, verdict_number};
 
 // An answer's number, the verdict's, and its place and window, all 0 beside a refusal.
 #[repr(C)]
-#[derive(Drop)]
+#[derive(Clone, Copy)]
 pub struct JudgedForC {
     pub answer: u32,
     pub verdict: u32,

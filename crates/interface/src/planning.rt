@@ -8,7 +8,7 @@ use plan::plan_bytes;
 
 // An answer's number, and the number of bursts, 0 beside a refusal.
 #[repr(C)]
-#[derive(Drop)]
+#[derive(Clone, Copy)]
 pub struct PlannedForC {
     pub answer: u32,
     pub bursts: u32,

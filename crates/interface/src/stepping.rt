@@ -18,7 +18,7 @@ use words::engine_words::{engine_from, settings, store_stepped};
 
 // An answer's number, the event's number and its two numbers, all 0 beside a refusal.
 #[repr(C)]
-#[derive(Drop)]
+#[derive(Clone, Copy)]
 pub struct SteppedForC {
     pub answer: u32,
     pub event: u32,
@@ -28,7 +28,7 @@ pub struct SteppedForC {
 
 // An answer's number, and the steps taken, 0 beside a refusal.
 #[repr(C)]
-#[derive(Drop)]
+#[derive(Clone, Copy)]
 pub struct RanForC {
     pub answer: u32,
     pub steps: u32,
@@ -48,7 +48,7 @@ fn step_report(answer: u32, event: Event) -> SteppedForC
 }
 
 // Some steps over the words: the answer, the last event, none beside a refusal, and how many there were.
-#[derive(Drop)]
+#[derive(Clone, Copy)]
 pub struct WalkedWords {
     pub answer: u32,
     pub event: Event,

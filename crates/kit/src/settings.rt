@@ -3,7 +3,7 @@ ghost use Rattle.std.specs.Prelude.{◌≡◌};
 ghost use Rattle.kit.specs.Settings.{legal_width, legal_beats, legal_of};
 
 // Width in bytes and beats of a burst.
-#[derive(Drop)]
+#[derive(Clone, Copy)]
 pub struct Settings {
     pub width: u32,
     pub beats: u32,

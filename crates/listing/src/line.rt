@@ -7,7 +7,7 @@ ghost use Rattle.listing.specs.Line.{line_of, header_of};
 use crate::word::{Word, put_word};
 use digits::decimal::{put_number, put_quick};
 
-#[derive(Drop)]
+#[derive(Clone, Copy)]
 pub struct Line {
     pub sequence: u32,
     pub word: Word,
@@ -100,6 +100,6 @@ pub fn put_header(out: &mut [u8], at: usize) -> usize
 {
     let text = b"seq event first second\n";
     let end = at + 23;
-    bytes::copy(text, &mut out[at..end]);
+    out[at..end].copy_from_slice(text);
     end
 }

@@ -7,7 +7,7 @@ ghost use Rattle.listing.specs.Word.{spaced_of, eight_of};
 
 use kit::word::store;
 
-#[derive(Drop)]
+#[derive(Clone, Copy)]
 pub enum Word {
     Set,
     Memory,
@@ -26,7 +26,7 @@ pub enum Word {
 }
 
 // The first four bytes, the next four, and how many of them are the word and its blank: the others are zeros.
-#[derive(Drop)]
+#[derive(Clone, Copy)]
 struct Bytes(u32, u32, usize);
 
 fn packed(word: Word) -> Bytes

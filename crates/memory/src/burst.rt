@@ -14,6 +14,6 @@ pub fn copy(memory: &mut [u8], from: usize, to: usize, count: usize)
     let mut held = [0u8; LONGEST_BURST];
     let from_end = from + count;
     let to_end = to + count;
-    bytes::copy(&memory[from..from_end], &mut held);
-    bytes::copy(&held[..count], &mut memory[to..to_end]);
+    held[..count].copy_from_slice(&memory[from..from_end]);
+    memory[to..to_end].copy_from_slice(&held[..count]);
 }

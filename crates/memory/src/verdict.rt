@@ -9,7 +9,7 @@ ghost use Rattle.memory.specs.Verdict.{group_of, pair_of};
 use crate::window::{Window, meets};
 use kit::logic::either;
 
-#[derive(Drop)]
+#[derive(Clone, Copy)]
 pub enum Verdict {
     Okay,
     Slave,

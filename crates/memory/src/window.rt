@@ -5,7 +5,7 @@ ghost use Rattle.memory.specs.Interval.{touches_of};
 use kit::logic::both;
 
 // Start and length; it may be empty, overlap others or run past the memory's end.
-#[derive(Drop)]
+#[derive(Clone, Copy)]
 pub struct Window {
     pub start: u32,
     pub length: u32,

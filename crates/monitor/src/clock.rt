@@ -3,7 +3,7 @@ ghost use Rattle.std.specs.Prelude.{◌≡◌};
 ghost use Rattle.monitor.specs.Clock.{in_range};
 
 // `aresetn` is RULES.md's reset-high: ARESETn is high, the clock is out of reset.
-#[derive(Drop)]
+#[derive(Clone, Copy)]
 pub struct Clock {
     pub address: u32,
     pub length: u32,

@@ -1,4 +1,6 @@
 // RULES.md, "Bus clocks": the monitor of the read-address bus, one clock at a time.
+#![tactic(auto)]
+
 mod burst;
 pub mod clock;
 mod flags;

@@ -10,7 +10,7 @@ use kit::answer::Answer;
 use kit::settings;
 
 // Flag n is bit n of `flags`; `before` is the clock before.
-#[derive(Drop)]
+#[derive(Clone, Copy)]
 pub struct Monitor {
     pub flags: u64,
     pub snapshot: u64,
@@ -18,7 +18,7 @@ pub struct Monitor {
 }
 
 // What a bus clock hands back: how many flags are up, and the monitor's next self.
-#[derive(Drop)]
+#[derive(Clone, Copy)]
 pub struct Clocked {
     pub answer: Answer,
     pub count: u32,

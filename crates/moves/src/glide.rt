@@ -14,7 +14,7 @@ use memory::good::good_bytes;
 use state::engine::Transfer;
 
 // The bytes moved by now, the last burst, of no meaning if there was none, and how many there were.
-#[derive(Drop)]
+#[derive(Clone, Copy)]
 pub struct Glided {
     pub moved: u32,
     pub last: Burst,

@@ -12,7 +12,7 @@ use memory::verdict::{Verdict, judge_pair};
 use state::engine::Transfer;
 
 // The burst that was moved, or nothing done.
-#[derive(Drop)]
+#[derive(Clone, Copy)]
 pub enum MovedOn {
     Moved(Burst),
     Nothing,

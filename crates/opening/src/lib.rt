@@ -1,4 +1,6 @@
 // RULES.md, "Trace and listing": what a listing says before the first record is judged.
+#![tactic(auto)]
+
 ghost use Rattle.std.specs.Prelude.{◌≡◌, ◌+◌, ◌≤◌, length};
 ghost use Rattle.digits.specs.Tables.{Tables};
 ghost use Rattle.session.specs.Effect.{settings_line_of};

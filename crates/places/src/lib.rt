@@ -1,4 +1,6 @@
 // RULES.md, "Memory that answers badly": where a group of bytes failed, and the window that holds that byte.
+#![tactic(auto)]
+
 pub mod fault;
 pub mod found;
 pub mod group;

@@ -14,7 +14,7 @@ use memory::window::{Window, touches};
 
 // An answer, and beside it, all 0 and OKAY beside a refusal: what the bytes answered, the lowest byte that gave it, and for a slave
 // error the number of the first window that holds this byte, from 0.
-#[derive(Drop)]
+#[derive(Clone, Copy)]
 pub struct Located {
     pub answer: Answer,
     pub verdict: Verdict,

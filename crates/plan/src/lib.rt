@@ -1,4 +1,6 @@
 // RULES.md, "Cutting a transfer": the plan of a transfer in a lent slice of numbers, or of bytes, and its number of bursts.
+#![tactic(auto)]
+
 mod fill;
 mod layout;
 pub mod measure;

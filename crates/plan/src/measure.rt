@@ -8,7 +8,7 @@ use kit::limits::{ADDRESS_END, MOST_BYTES};
 use kit::settings::{Settings, legal};
 
 // The answer, and the number of bursts, 0 beside a refusal.
-#[derive(Drop)]
+#[derive(Clone, Copy)]
 pub struct Planned {
     pub answer: Answer,
     pub bursts: u32,

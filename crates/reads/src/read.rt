@@ -11,7 +11,7 @@ use state::bits::{
 use state::engine::{Control, Engine, Phase, Status, bit_number, busy, error_set, well_formed};
 
 // The answer, and the value beside it, 0 beside a refusal.
-#[derive(Drop)]
+#[derive(Clone, Copy)]
 pub struct Reading {
     pub answer: Answer,
     pub value: u32,

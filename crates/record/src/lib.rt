@@ -1,4 +1,6 @@
 // RULES.md, "Trace and listing": reading a record gives it and the next place, or the refusal.
+#![tactic(auto)]
+
 ghost use Rattle.std.specs.Prelude.{◌≡◌};
 ghost use Rattle.record.specs.Reading.{reading_of};
 

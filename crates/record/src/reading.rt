@@ -3,7 +3,7 @@ use monitor::clock::Clock;
 
 // One case a mark: CF and C2 (of two engines), MM, SW, WR, RD, ST, AR; a WR, RD or ST for an engine that is not there is
 // astray. MM's bytes stay in the input, from the mark's place + 12 up to the next.
-#[derive(Drop)]
+#[derive(Clone, Copy)]
 pub enum Body {
     Settings { two: bool, width: u32, beats: u32 },
     Memory { address: u32, length: u32 },
@@ -15,14 +15,14 @@ pub enum Body {
     Clock { bits: u32, clock: Clock },
 }
 
-#[derive(Drop)]
+#[derive(Clone, Copy)]
 pub struct Record {
     pub sequence: u32,
     pub body: Body,
 }
 
 // `next` is the place after the record; Refused is answer 10.
-#[derive(Drop)]
+#[derive(Clone, Copy)]
 pub enum Reading {
     Found { record: Record, next: usize },
     Refused,

@@ -1,2 +1,4 @@
 // RULES.md, "Trace and listing": the next record of a trace.
+#![tactic(auto)]
+
 pub mod records;

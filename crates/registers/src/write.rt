@@ -21,7 +21,7 @@ use state::engine::{
 };
 
 // The answer, and the state after the write.
-#[derive(Drop)]
+#[derive(Clone, Copy)]
 pub struct Written {
     pub answer: Answer,
     pub engine: Engine,

@@ -1,5 +1,7 @@
 // The program: a trace on standard input, its listing on standard output. It only moves bytes; what each record does
 // and prints is the library's, trace::pass.
+#![tactic(auto)]
+
 ghost use Rattle.std.specs.Prelude.{◌≡◌, ◌+◌, ◌≤◌, ◌<◌, ◌^◌, length};
 ghost use Rattle.digits.specs.Tables.{Tables};
 ghost use Rattle.flow.specs.Flow.{room, Fits};

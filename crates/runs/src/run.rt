@@ -11,7 +11,7 @@ use state::engine::{Engine, well_formed};
 use steps::event::Event;
 
 // A step's answer, its event, none beside a refusal, and the state after it.
-#[derive(Drop)]
+#[derive(Clone, Copy)]
 pub struct Stepped {
     pub answer: Answer,
     pub event: Event,
@@ -19,7 +19,7 @@ pub struct Stepped {
 }
 
 // A run's answer, the steps it took, 0 beside a refusal, and the state after them.
-#[derive(Drop)]
+#[derive(Clone, Copy)]
 pub struct Ran {
     pub answer: Answer,
     pub steps: u32,

@@ -21,7 +21,7 @@ use steps::event::{Advanced, Event};
 use steps::move_burst::continue_or_finish;
 
 // The last event of some steps, their number, and the state after them.
-#[derive(Drop)]
+#[derive(Clone, Copy)]
 pub struct Walked {
     pub event: Event,
     pub steps: u32,

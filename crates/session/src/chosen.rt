@@ -5,7 +5,7 @@ ghost use Rattle.session.specs.Chosen.{chosen_at, two_of, turned_of, called_of};
 use record::engines::names;
 
 // The only engine, or engine 1 or 2 of two.
-#[derive(Drop)]
+#[derive(Clone, Copy)]
 pub enum Chosen {
     Only,
     First,

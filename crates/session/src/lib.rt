@@ -1,5 +1,7 @@
 // What a replay holds between two lines, beside the memory and the windows that the program lends; specs/ says what each
 // record of a trace does to it and prints.
+#![tactic(auto)]
+
 pub mod bad;
 pub mod chosen;
 pub mod hands;
@@ -15,7 +17,7 @@ use monitor::monitor::Monitor;
 use state::engine::{Engine, fresh};
 
 // Nothing read yet, reading records, in the midst of an ST, or over after a bad line.
-#[derive(Drop)]
+#[derive(Clone, Copy)]
 pub enum Mode {
     Start,
     Records,
@@ -25,7 +27,7 @@ pub enum Mode {
 
 // `engine` is the only one or, of two, the chosen one: the one that the last WR, RD or ST was for. `sequence` is the last good
 // record's, and `windows` the number of sick windows so far.
-#[derive(Drop)]
+#[derive(Clone, Copy)]
 pub struct Session {
     pub engine: Engine,
     pub monitor: Monitor,
@@ -36,14 +38,14 @@ pub struct Session {
 }
 
 // The session after a line, and the line.
-#[derive(Drop)]
+#[derive(Clone, Copy)]
 pub struct Effect {
     pub session: Session,
     pub line: Line,
 }
 
 // The session after some turns, the place of the next record, and the place past the bytes that were put.
-#[derive(Drop)]
+#[derive(Clone, Copy)]
 pub struct Passed {
     pub session: Session,
     pub at: usize,
@@ -51,7 +53,7 @@ pub struct Passed {
 }
 
 // What a pass leaves: the same, and the engine that is not the chosen one.
-#[derive(Drop)]
+#[derive(Clone, Copy)]
 pub struct AfterPass {
     pub session: Session,
     pub other: Engine,

@@ -20,7 +20,7 @@ pub fn copy_part(source: &[u8], at: usize, count: usize, target: &mut [u8], to: 
 {
     let at_end = at + count;
     let to_end = to + count;
-    bytes::copy(&source[at..at_end], &mut target[to..to_end]);
+    target[to..to_end].copy_from_slice(&source[at..at_end]);
 }
 
 // Reads `count` bytes from the transfer's byte `from` on, of a side fixed at `start`, to the front of `held`.

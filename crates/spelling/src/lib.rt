@@ -1,5 +1,7 @@
 // include/belikumba.h, "Engine": which numbers are an engine's words, and which are those of a well-formed one. They are judged
 // as they stand: an engine made of them and stored again to be compared would cost as much as a step.
+#![tactic(auto)]
+
 ghost use Rattle.std.specs.Prelude.{◌≡◌};
 ghost use Rattle.words.specs.EngineWords.{ill_formed_of, engine_of};
 ghost use Rattle.spelling.specs.Spelling.{whole_of, truths_of, bit_listed_of, phase_listed_of, still_of, spelled_of, aligned_of, inside_of, fits_of, phase_sound_of, sound_of, settled_of, moves_of};

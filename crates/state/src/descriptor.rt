@@ -28,7 +28,7 @@ pub const STATUS: usize = 0x1c;
 pub const COMPLETE: u32 = 31;
 
 // What a descriptor says: `stale` if its status says that it is done.
-#[derive(Drop)]
+#[derive(Clone, Copy)]
 pub struct Descriptor {
     pub next: u32,
     pub source: u32,
@@ -38,7 +38,7 @@ pub struct Descriptor {
 }
 
 // How a transfer starts: it moves, or it ends with an internal error.
-#[derive(Drop)]
+#[derive(Clone, Copy)]
 pub enum Start {
     Moves(Transfer),
     Internal,

@@ -11,7 +11,7 @@ use kit::logic::{both, either};
 use kit::settings::Settings;
 
 // CDMACR's kept bits: SGMode, Key Hole Read and Write (source and destination fixed), IOC_IrqEn, Err_IrqEn.
-#[derive(Drop)]
+#[derive(Clone, Copy)]
 pub struct Control {
     pub sgmode: bool,
     pub keyholeread: bool,
@@ -21,7 +21,7 @@ pub struct Control {
 }
 
 // CDMASR's error bits: at most one of them is ever set, as an error halts the engine and only a reset goes on.
-#[derive(Drop)]
+#[derive(Clone, Copy)]
 pub enum ErrorBit {
     Clear,
     DmaIntErr,
@@ -33,7 +33,7 @@ pub enum ErrorBit {
 }
 
 // CDMASR's error bit, IOC_Irq and Err_Irq.
-#[derive(Drop)]
+#[derive(Clone, Copy)]
 pub struct Status {
     pub fault: ErrorBit,
     pub ioc: bool,
@@ -41,7 +41,7 @@ pub struct Status {
 }
 
 // CURDESC, TAILDESC, the next pointer, and the next pointer that a fetched descriptor holds.
-#[derive(Drop)]
+#[derive(Clone, Copy)]
 pub struct Pointers {
     pub current: u32,
     pub tail: u32,
@@ -50,7 +50,7 @@ pub struct Pointers {
 }
 
 // SA, DA and BTT.
-#[derive(Drop)]
+#[derive(Clone, Copy)]
 pub struct Simple {
     pub sa: u32,
     pub da: u32,
@@ -58,7 +58,7 @@ pub struct Simple {
 }
 
 // A transfer in its midst.
-#[derive(Drop)]
+#[derive(Clone, Copy)]
 pub struct Transfer {
     pub source: u32,
     pub destination: u32,
@@ -67,7 +67,7 @@ pub struct Transfer {
 }
 
 // How a chain's transfer ended, for its status word.
-#[derive(Drop)]
+#[derive(Clone, Copy)]
 pub enum Outcome {
     Complete,
     Internal,
@@ -75,7 +75,7 @@ pub enum Outcome {
     Decode,
 }
 
-#[derive(Drop)]
+#[derive(Clone, Copy)]
 pub enum Phase {
     Idle,
     Fetch,
@@ -83,7 +83,7 @@ pub enum Phase {
     Update(Outcome),
 }
 
-#[derive(Drop)]
+#[derive(Clone, Copy)]
 pub struct Engine {
     pub settings: Settings,
     pub control: Control,

@@ -2,7 +2,7 @@
 use cut::Burst;
 use state::engine::Engine;
 
-#[derive(Drop)]
+#[derive(Clone, Copy)]
 pub enum Event {
     None,
     Fetch(u32),
@@ -13,7 +13,7 @@ pub enum Event {
 }
 
 // A step's event, and the state after it.
-#[derive(Drop)]
+#[derive(Clone, Copy)]
 pub struct Advanced {
     pub event: Event,
     pub engine: Engine,

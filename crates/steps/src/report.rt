@@ -4,7 +4,7 @@ ghost use Rattle.steps.specs.Report.{report_of};
 
 use crate::event::Event;
 
-#[derive(Drop)]
+#[derive(Clone, Copy)]
 pub struct Report {
     pub number: u32,
     pub first: u32,

@@ -1,4 +1,6 @@
 // AR records, one after the other, in a loop of their own that carries the monitor.
+#![tactic(auto)]
+
 ghost use Rattle.std.specs.Prelude.{◌≡◌, ◌+◌, ◌≤◌, ◌<◌, ◌^◌, length};
 ghost use Rattle.digits.specs.Tables.{Tables};
 ghost use Rattle.monitor.specs.Monitor.{seen};

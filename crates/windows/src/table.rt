@@ -8,7 +8,7 @@ use memory::window::Window;
 
 // The first `count` numbers of `flat` are in use. It has room for one window more than a step allows, so that too many
 // windows stay too many.
-#[derive(Drop)]
+#[derive(Clone, Copy)]
 pub struct Table {
     pub flat: [u32; 34],
     pub count: usize,

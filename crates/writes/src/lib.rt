@@ -1,4 +1,6 @@
 // WR records, one after the other, in a loop of their own that carries the engine.
+#![tactic(auto)]
+
 ghost use Rattle.std.specs.Prelude.{◌≡◌, ◌+◌, ◌≤◌, ◌<◌, ◌^◌, length};
 ghost use Rattle.kit.specs.Answer.{number_of};
 ghost use Rattle.digits.specs.Tables.{Tables};

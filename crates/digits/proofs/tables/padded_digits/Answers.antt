@@ -1,0 +1,6 @@
+use native.Mathlib.Omega.{arith}
+use Rattle.digits.proofs.Entries.{padded-three}
+use Rattle.digits.proofs.tables.padded_digits.Goals as goal
+
+pub returns : goal.returns
+returns c = padded-three c.args.value (omega arith) c.entry.ensures

@@ -1,0 +1,8 @@
+use Rattle.listing.specs.Line.{header_of}
+use native.Mathlib.Omega.{arith}
+use Rattle.listing.proofs.Lines.{header-put}
+use Rattle.listing.proofs.line.put_header.Goals as goal
+
+pub returns : goal.returns
+unfolding header_of
+returns c = let a = c.args in header-put a.out.now a.at c.copy.new.1.0 (omega arith) c.copy.ensures.1

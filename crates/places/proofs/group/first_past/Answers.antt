@@ -1,0 +1,17 @@
+use mathlib.Core.Logic.{inl, inr}
+use native.Mathlib.Omega.{arith}
+use Rattle.places.proofs.Groups.{past-none, past-start, past_end}
+use Rattle.places.proofs.group.first_past.Goals as goal
+
+-- The lowest byte past the memory's end meets its contract.
+pub returns-then-bytes-eq0 : goal.returns-then-bytes-eq0
+returns-then-bytes-eq0 c ws = past-none _ ws _ _ (inl c.if-bytes-eq0.true)
+
+pub returns-then-size-start : goal.returns-then-size-start
+returns-then-size-start c ws = past-none _ ws _ _ (inr (omega arith))
+
+pub returns-then-size-start-2 : goal.returns-then-size-start-2
+returns-then-size-start-2 c ws = past-start _ ws _ _ (omega arith) (omega arith)
+
+pub returns : goal.returns
+returns c ws = past_end _ ws _ _ (omega arith) (omega arith)

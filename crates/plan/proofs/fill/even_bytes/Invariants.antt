@@ -1,0 +1,11 @@
+use lib.Seq.{sets}
+use Rattle.plan.specs.Layout.{even_of}
+use Rattle.plan.proofs.Filling.{little, little-coding, Evening}
+use Rattle.plan.proofs.fill.even_bytes.Given as goal
+
+abbrev pub invariant-loop-left : goal.invariant-loop-left
+invariant-loop-left l =
+    Evening little-coding l.each l.initial.places (sets l.initial.places l.place-2 (little (even_of l.each l.bursts l.at-2))) l.places l.at l.place l.left
+
+abbrev pub decreases-loop-left : goal.decreases-loop-left
+decreases-loop-left l = l.left

@@ -1,0 +1,21 @@
+use mathlib.Core.Path.{refl, ap, ◌∙◌}
+use mathlib.Core.Bool.{true}
+use native.Mathlib.Omega.{arith}
+use Rattle.record.specs.declared.reading.Body.TheVariants.{Read}
+use Rattle.record.specs.Mark.{RD2}
+use Rattle.record.specs.Reading.{for_engine, found_of}
+use Rattle.record.proofs.Readings.{found, short}
+use Rattle.record.proofs.engines.numbered_register.Goals as goal
+
+pub returns-then-input-at-lt-RD2 : goal.returns-then-input-at-lt-RD2
+returns-then-input-at-lt-RD2 c =
+    let a = c.args in
+    short a.input.now a.at true RD2 (omega arith)
+
+pub returns : goal.returns
+returns c =
+    let a = c.args in
+    let number = c.byte-number.ensures in
+    let field = c.load_half-offset.ensures in
+    found a.input.now a.at true RD2 refl (omega arith)
+    (c.found.ensures ∙ ap (found_of a.input.now a.at 9) (c.for_engine-body.ensures ∙ (λ i. for_engine (number i) (Read (field i)))))

@@ -1,0 +1,16 @@
+use mathlib.Core.Path.{ap}
+use native.Mathlib.Omega.{arith}
+use Rattle.steps.specs.Step.{AfterAdvance}
+use Rattle.runs.proofs.Walks.{reaches-none, reaches-length, reaches-one}
+use Rattle.runs.proofs.walk.stride.Goals as goal
+
+pub advance-advanced-requires : goal.advance-advanced-requires
+advance-advanced-requires c =
+    let p = c.requires in
+    let size = reaches-length c.bursts_ahead-ahead.ensures.reaches in record { settings_value = p.settings_value; engine_value = p.engine_value; memory_len_bound = omega (arith, p.memory_len_bound, size) }
+
+pub returns : goal.returns
+returns c =
+    let start = c in
+    let here = reaches-none (omega (arith, c.if-ahead-gt0.false)) c.bursts_ahead-ahead.ensures.reaches in
+    let more = start.requires.1.1.1 in record { reaches = reaches-one more.0 (ap (λ (x : AfterAdvance). x.memory-1) here) c.advance-advanced.ensures; steps_nonzero = (omega arith, omega (arith, more.1)) }

@@ -1,0 +1,4 @@
+use Rattle.spelling.proofs.ill_formed.Goals as goal
+
+pub returns : goal.returns
+returns c = cc

@@ -1,9 +1,0 @@
-use mathlib.Core.Path.{refl}
-use Rattle.state.proofs.engine.fresh.Statement.{statement}
-use Rattle.state.proofs.engine.fresh.Tie as tie
-
-returns : tie.Need-returns
-returns c = refl
-
-pub fresh-spec : {M : Type 1} → statement M
-fresh-spec = tie.close (tie.spec returns)

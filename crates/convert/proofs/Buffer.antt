@@ -9,7 +9,7 @@ use lib.Seq.{length-take-le, take-take, take-add, drop-drop, drop_at}
 use lib.IntN.{ℤ, pos, negsuc}
 use Rattle.kit.specs.Choice.{when}
 use Rattle.kit.proofs.Choice.{cases}
-use Rattle.libc.specs.Io.{Moved}
+use Rattle.kit.specs.Reading.{Moved}
 use Rattle.record.specs.Starts.{settings_at, older_settings}
 use Rattle.convert.specs.declared.copying.Copying.{Copying}
 use Rattle.convert.specs.Copying.{room, front, pending_of, Fits, after_read, going_of, first_of}

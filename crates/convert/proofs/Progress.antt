@@ -10,7 +10,7 @@ use lib.Seq.{length-take-le}
 use lib.IntN.{ℤ, pos, negsuc}
 use Rattle.kit.specs.Choice.{either}
 use Rattle.kit.proofs.Choice.{either-right}
-use Rattle.libc.specs.Io.{Moved}
+use Rattle.kit.specs.Reading.{Moved}
 use Rattle.convert.specs.declared.copying.Copying.{Copying}
 use Rattle.convert.specs.Copying.{room, front, over_of, ready_of, after_read}
 use Rattle.convert.specs.Turn.{Turn, delivered_by}

@@ -2,7 +2,7 @@
 -- are the system's: they stand here as unknowns.
 use Rattle.std.specs.Prelude.{ℕ, ◌+◌, ◌-◌, ◌≡◌, Bool, true, false, List, [], length, take, drop, ℤ, pos, negsuc}
 use Rattle.kit.specs.Choice.{when}
-use Rattle.libc.specs.Io.{Moved}
+use Rattle.kit.specs.Reading.{Moved}
 use Rattle.convert.specs.declared.copying.Copying.{Copying}
 use Rattle.convert.specs.Copying.{room, front, pending_of, Fits, opened, ready_of, after_read, going_of, after_write}
 

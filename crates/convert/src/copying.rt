@@ -1,6 +1,6 @@
 // What the converter keeps from one turn to the next, and what a read and a write make of it. Nothing here calls the system.
 ghost use Rattle.std.specs.Prelude.{◌≡◌, ◌+◌, ◌-◌, ◌≤◌};
-ghost use Rattle.libc.specs.Io.{Moved};
+ghost use Rattle.kit.specs.Reading.{Moved};
 ghost use Rattle.convert.specs.Copying.{room, front, ready_of, over_of, after_read, after_write};
 
 // The bytes of CF 0 (4,16). They stand at the buffer's front all the time, and the trace's bytes after them, so that one

@@ -4,23 +4,19 @@ ghost use Rattle.convert.specs.Copying.{room, front, Fits};
 ghost use Rattle.convert.specs.Turn.{Refills};
 
 use crate::copying::{Copying, FRONT, after_read};
-use libc::{EINTR, STDIN_FILENO};
+use std::io::{ErrorKind, Read, Stdin};
 
 // Reads once. There is room for a byte, so a read that answers none has met the trace's end.
-pub fn refill(state: Copying, buffer: &mut [u8]) -> Copying
+pub fn refill(state: Copying, buffer: &mut [u8], mut stdin: Stdin) -> Copying
     requires { Fits state buffer.old × (front + state.waiting < room) }
     ensures { Refills state buffer.old result buffer.new }
 {
     let end = FRONT + state.waiting;
-    let got = libc::read(STDIN_FILENO, &mut buffer[end..]);
-    let again = interrupted(got);
-    after_read(state, got, again)
-}
-
-// Whether a read that answered `got` was interrupted.
-fn interrupted(got: isize) -> bool {
-    if got >= 0 {
-        return false;
+    match stdin.read(&mut buffer[end..]) {
+        Ok(got) => after_read(state, got as isize, false),
+        Err(error) => {
+            let again = error.kind() == ErrorKind::Interrupted;
+            after_read(state, -1, again)
+        }
     }
-    os::errno() == EINTR
 }

@@ -13,22 +13,22 @@ ghost use Rattle.convert.specs.Whole.{Reached};
 
 use copying::{Copying, is_over, ready};
 use input::refill;
-use libc::STDERR_FILENO;
 use output::{begin, forward};
+use std::io::{Stderr, Write};
 
 // A proved loop has a bound. A turn is the last, reads a byte, or had its read interrupted (`Progress`), so real turns are
 // bounded by the bytes. If the bound is used up, the program says so.
 const MOST_TURNS: u64 = 18446744073709551615;
 
-fn main() {
-    let mut space = io::large_buffer();
+fn main(rt: HostRuntime) {
+    let mut space = [0u8; 65536];
     let buffer: &mut [u8] = &mut space;
-    let state = run(buffer);
-    report(state);
+    let state = run(buffer, rt);
+    report(state, rt.stderr());
 }
 
 // Turns until the copy is over.
-fn run(buffer: &mut [u8]) -> Copying
+fn run(buffer: &mut [u8], rt: HostRuntime) -> Copying
     requires { length buffer.old ≡ room }
     ensures { Reached result buffer.new }
 {
@@ -38,37 +38,37 @@ fn run(buffer: &mut [u8]) -> Copying
         if is_over(state) {
             break;
         }
-        state = turn(state, buffer);
+        state = turn(state, buffer, rt);
         turns -= 1;
     }
     state
 }
 
 // One turn: some of the trace, and its way out once it is known what comes before it.
-fn turn(state: Copying, buffer: &mut [u8]) -> Copying
+fn turn(state: Copying, buffer: &mut [u8], rt: HostRuntime) -> Copying
     requires { Fits state buffer.old × (front + state.waiting < room) }
     ensures { Turn state buffer.old result buffer.new }
 {
-    let state = refill(state, buffer);
+    let state = refill(state, buffer, rt.stdin());
     if !ready(state) {
         return state;
     }
-    forward(state, buffer)
+    forward(state, buffer, rt.stdout())
 }
 
 // Says so if the converted trace is not whole.
-fn report(state: Copying) -> bool
+fn report(state: Copying, mut stderr: Stderr) -> bool
     ensures { result ≡ finished_of state }
 {
     if !state.taken {
         let text = b"convert: the converted trace could not be written whole\n";
-        io::write_all(STDERR_FILENO, text);
+        let _ = stderr.write_all(text);
         return false;
     }
     if !state.ended {
         let text =
             b"convert: the trace could not be read to its end, so what was written is not whole\n";
-        io::write_all(STDERR_FILENO, text);
+        let _ = stderr.write_all(text);
         return false;
     }
     true

@@ -4,8 +4,8 @@ ghost use Rattle.convert.specs.Copying.{room, pending_of, first_of, Fits};
 ghost use Rattle.convert.specs.Turn.{Begins, Handed, Forwards};
 
 use crate::copying::{Copying, FRONT, after_write};
-use libc::STDOUT_FILENO;
 use record::starts::settings_at;
+use std::io::{Stdout, Write};
 
 // Puts CF 0 (4,16) at the buffer's front, before anything is read.
 pub fn begin(buffer: &mut [u8]) -> Copying
@@ -13,7 +13,7 @@ pub fn begin(buffer: &mut [u8]) -> Copying
     ensures { Begins result buffer.new }
 {
     let older = b"CF\0\0\0\0\x04\0\x10\0";
-    bytes::copy(older, buffer);
+    buffer[..FRONT].copy_from_slice(older);
     Copying {
         waiting: 0,
         decided: false,
@@ -24,13 +24,13 @@ pub fn begin(buffer: &mut [u8]) -> Copying
 }
 
 // Hands over what is pending; the first time with what comes before the trace.
-pub fn forward(state: Copying, buffer: &[u8]) -> Copying
+pub fn forward(state: Copying, buffer: &[u8], stdout: Stdout) -> Copying
     requires { Fits state buffer.now }
     ensures { Forwards state buffer.now result }
 {
     let from = first(state, buffer);
     let end = FRONT + state.waiting;
-    let taken = hand_over(&buffer[from..end]);
+    let taken = hand_over(&buffer[from..end], stdout);
     after_write(state, taken)
 }
 
@@ -51,8 +51,8 @@ fn first(state: Copying, buffer: &[u8]) -> usize
 }
 
 // The one place that writes to standard output: all of `part`; false if nobody takes it.
-fn hand_over(part: &[u8]) -> bool
+fn hand_over(part: &[u8], mut stdout: Stdout) -> bool
     ensures { Handed part.now result }
 {
-    io::write_all(STDOUT_FILENO, part)
+    stdout.write_all(part).is_ok()
 }

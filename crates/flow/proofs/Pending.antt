@@ -13,7 +13,7 @@ use lib.IntN.{ℤ, pos, negsuc}
 use Rattle.kit.specs.Choice.{when}
 use Rattle.kit.proofs.Choice.{cases, never}
 use Rattle.record.specs.Claims.{longest}
-use Rattle.libc.specs.Io.{Moved}
+use Rattle.kit.specs.Reading.{Moved}
 use Rattle.memory.specs.Burst.{copied}
 use Rattle.flow.specs.declared.flow.Flow.{Flow}
 use Rattle.flow.specs.Flow.{room, left_of, pending, Fits, wants_of, after_read}

@@ -1,6 +1,6 @@
 -- What the program keeps from one turn to the next, and what a read and a pass make of it.
 use Rattle.std.specs.Prelude.{ℕ, ◌+◌, ◌-◌, ◌≤◌, ◌≡◌, Bool, true, false, not, List, length, take, drop, ℤ, pos, negsuc, eqb, ltb}
-use Rattle.kit.specs.Choice.{when, both}
+use Rattle.kit.specs.Choice.{when}
 use Rattle.record.specs.Claims.{longest}
 use Rattle.session.specs.declared.Mode.{Mode}
 use Rattle.session.specs.declared.Mode.TheVariants.{Start, Records, Steps, Over}

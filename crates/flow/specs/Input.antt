@@ -1,7 +1,7 @@
 -- What a refill does, whatever the system answers it. What a read delivers is the system's: it stands here as an unknown.
 use Rattle.std.specs.Prelude.{ℕ, ◌-◌, ◌≡◌, Bool, List, length, take, drop, ℤ}
 use Rattle.kit.specs.Choice.{when}
-use Rattle.libc.specs.Io.{Moved}
+use Rattle.kit.specs.Reading.{Moved}
 use Rattle.flow.specs.declared.flow.Flow.{Flow}
 use Rattle.flow.specs.Flow.{room, left_of, pending, wants_of, after_read}
 

@@ -1,6 +1,6 @@
 // What a replay keeps from one turn to the next, and what a read and a pass make of it. Nothing here calls the system.
 ghost use Rattle.std.specs.Prelude.{◌≡◌, ◌+◌, ◌-◌, ◌≤◌, ◌<◌, ◌^◌};
-ghost use Rattle.libc.specs.Io.{Moved};
+ghost use Rattle.kit.specs.Reading.{Moved};
 ghost use Rattle.flow.specs.Flow.{opened_of, wants_of, left_of, room, after_read, over_of, after_pass};
 
 use session::{AfterPass, LONGEST_RECORD, Mode, Session, start};

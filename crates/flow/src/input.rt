@@ -4,11 +4,11 @@ ghost use Rattle.flow.specs.Flow.{Fits};
 ghost use Rattle.flow.specs.Input.{Refills};
 
 use crate::flow::{Flow, after_read, wants};
-use libc::{EINTR, STDERR_FILENO, STDIN_FILENO};
 use memory::burst::copy;
+use std::io::{Error, ErrorKind, Read, Stderr, Stdin, Write};
 
 // If too little is pending, moves it to the buffer's front and reads once.
-pub fn refill(flow: Flow, buffer: &mut [u8]) -> Flow
+pub fn refill(flow: Flow, buffer: &mut [u8], mut stdin: Stdin, stderr: Stderr) -> Flow
     requires { Fits flow buffer.old }
     ensures { Refills flow buffer.old result buffer.new }
 {
@@ -18,26 +18,27 @@ pub fn refill(flow: Flow, buffer: &mut [u8]) -> Flow
     let at = flow.at;
     let left = flow.filled - at;
     copy(buffer, at, 0, left);
-    let got = libc::read(STDIN_FILENO, &mut buffer[left..]);
-    let again = interrupted(got);
-    after_read(flow, got, again)
+    match stdin.read(&mut buffer[left..]) {
+        Ok(got) => after_read(flow, got as isize, false),
+        Err(error) => {
+            let again = interrupted(&error, stderr);
+            after_read(flow, -1, again)
+        }
+    }
 }
 
-// Whether a read that answered `got` was interrupted. If it failed otherwise, says so.
-fn interrupted(got: isize) -> bool {
-    if got >= 0 {
-        return false;
-    }
-    report(os::errno() == EINTR)
+// Whether the read that failed was interrupted. If it failed otherwise, says so.
+fn interrupted(error: &Error, stderr: Stderr) -> bool {
+    report(error.kind() == ErrorKind::Interrupted, stderr)
 }
 
 // Says so if the trace was not read to its end.
-pub fn report(whole: bool) -> bool
+pub fn report(whole: bool, mut stderr: Stderr) -> bool
     ensures { result ≡ whole }
 {
     if !whole {
         let text = b"replay: the trace could not be read to its end, so the listing is not whole\n";
-        io::write_all(STDERR_FILENO, text);
+        let _ = stderr.write_all(text);
     }
     whole
 }

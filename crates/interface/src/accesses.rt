@@ -18,8 +18,7 @@ pub struct ValueForC {
     pub value: u32,
 }
 
-#[unsafe(no_mangle)]
-pub extern "C" fn belikumba_read(words: &[u32; 22], offset: u32) -> ValueForC
+pub fn belikumba_read(words: &[u32; 22], offset: u32) -> ValueForC
     ensures { value_seen result ≡ read_words_of words.now offset }
 {
     let reading = read(load(words), offset);
@@ -30,8 +29,7 @@ pub extern "C" fn belikumba_read(words: &[u32; 22], offset: u32) -> ValueForC
     }
 }
 
-#[unsafe(no_mangle)]
-pub extern "C" fn belikumba_write(words: &mut [u32; 22], offset: u32, value: u32) -> u32
+pub fn belikumba_write(words: &mut [u32; 22], offset: u32, value: u32) -> u32
     ensures { words_seen result words.new ≡ write_words_of words.old offset value }
 {
     let written = write(load(words), offset, value);
@@ -44,8 +42,7 @@ pub extern "C" fn belikumba_write(words: &mut [u32; 22], offset: u32, value: u32
     answer
 }
 
-#[unsafe(no_mangle)]
-pub extern "C" fn belikumba_interrupt_line(words: &[u32; 22]) -> ValueForC
+pub fn belikumba_interrupt_line(words: &[u32; 22]) -> ValueForC
     ensures { value_seen result ≡ line_words_of words.now }
 {
     let engine = load(words);

@@ -26,8 +26,7 @@ fn refused(answer: u32) -> ClockedForC
     }
 }
 
-#[unsafe(no_mangle)]
-pub extern "C" fn belikumba_bus_clock(
+pub fn belikumba_bus_clock(
     words: &mut [u32; 14],
     width: u32,
     beats: u32,

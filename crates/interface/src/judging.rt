@@ -16,13 +16,7 @@ pub struct JudgedForC {
     pub window: u32,
 }
 
-#[unsafe(no_mangle)]
-pub extern "C" fn belikumba_judge(
-    size: usize,
-    windows: &[u32],
-    start: u32,
-    bytes: u32,
-) -> JudgedForC
+pub fn belikumba_judge(size: usize, windows: &[u32], start: u32, bytes: u32) -> JudgedForC
     ensures { result ≡ judged_for_c (located_of size windows.now start bytes) }
 {
     let located = locate(size, windows, start, bytes);

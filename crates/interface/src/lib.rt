@@ -1,9 +1,9 @@
 // The functions of include/belikumba.h, for a host program in C: a caller keeps its engine and its monitor as numbers.
 #![tactic(auto)]
 
-mod accesses;
-mod bus;
-mod judging;
+pub mod accesses;
+pub mod bus;
+pub mod judging;
 mod moving;
-mod planning;
-mod stepping;
+pub mod planning;
+pub mod stepping;

@@ -14,8 +14,7 @@ pub struct PlannedForC {
     pub bursts: u32,
 }
 
-#[unsafe(no_mangle)]
-pub extern "C" fn belikumba_plan(
+pub fn belikumba_plan(
     width: u32,
     beats: u32,
     start: u32,
@@ -32,8 +31,7 @@ pub extern "C" fn belikumba_plan(
     }
 }
 
-#[unsafe(no_mangle)]
-pub extern "C" fn belikumba_count(width: u32, beats: u32, start: u32, count: u32) -> PlannedForC
+pub fn belikumba_count(width: u32, beats: u32, start: u32, count: u32) -> PlannedForC
     ensures { counted_seen result ≡ counted_of width beats start count }
 {
     let counted = plan::count(width, beats, start, count);

@@ -107,12 +107,7 @@ fn whole_step(words: &mut [u32; 22], memory: &mut [u8], windows: &[u32]) -> Step
     step_report(walked.answer, event)
 }
 
-#[unsafe(no_mangle)]
-pub extern "C" fn belikumba_step(
-    words: &mut [u32; 22],
-    memory: &mut [u8],
-    windows: &[u32],
-) -> SteppedForC
+pub fn belikumba_step(words: &mut [u32; 22], memory: &mut [u8], windows: &[u32]) -> SteppedForC
     ensures { step_words_seen result words.new memory.new ≡ step_words_of words.old memory.old windows.now }
 {
     let moved = move_on_words(words, memory, windows);
@@ -122,8 +117,7 @@ pub extern "C" fn belikumba_step(
     }
 }
 
-#[unsafe(no_mangle)]
-pub extern "C" fn belikumba_run(
+pub fn belikumba_run(
     words: &mut [u32; 22],
     memory: &mut [u8],
     windows: &[u32],

@@ -3,3 +3,4 @@ pub mod Answer
 pub mod Limits
 pub mod Settings
 pub mod Word
+pub mod Reading

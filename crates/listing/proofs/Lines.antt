@@ -62,16 +62,10 @@ line-put l {m} {m₁} {m₂} {m₃} {m₄} {at} {a} {b} {c} {d} p e s q r =
 -- ---- how the header is put
 
 pub header-put : (m : List ℕ) (at : ℕ) (put : List ℕ) → at + 23 ≤ length m
-    → put ≡ header_of ++ drop 23 (take (at + 23 - at) (drop at m)) → Puts m (put_mid at (at + 23 - at) m put) at (at + 23) header_of
+    → put ≡ header_of → Puts m (put_mid at (at + 23 - at) m put) at (at + 23) header_of
 unfolding header_of
-header-put m at put fits e =
+header-put m at put fits whole =
     let width : at + 23 - at ≡ 23 = omega arith in
-    let room : length (take 23 (drop at m)) ≡ 23 = length-take-le 23 (drop at m) (simp length-drop (omega arith)) in
-    let whole : put ≡ header_of =
-    e
-    ∙ ap (λ (n : ℕ). header_of ++ drop 23 (take n (drop at m))) width
-    ∙ ap (λ (l : List ℕ). header_of ++ l) (drop_of_length-le (take 23 (drop at m)) {i = 23} (omega arith))
-    ∙ append-nil header_of in
     record {
       past = refl;
       stored =

@@ -12,8 +12,8 @@ ghost use Rattle.replay.specs.Whole.{Reached};
 use digits::tables::fill;
 use flow::flow::{Flow, after_pass, opened};
 use flow::input::{refill, report};
-use libc::STDOUT_FILENO;
 use listing::line::put_header;
+use std::io::{Stdout, Write};
 use trace::pass::pass;
 
 // A proved loop has a bound. A turn reads or prints a byte, is the last, or had its read interrupted (`Progress`), so real
@@ -21,29 +21,29 @@ use trace::pass::pass;
 // stay below 2^63. At ten million turns a second it lasts 160 days; if it is used up, the program says so.
 const MOST_TURNS: u64 = 140737488355328;
 
-fn main() {
+fn main(rt: HostRuntime) {
     let mut leading_space = [0u32; 1000];
     let mut padded_space = [0u32; 1000];
     let leading: &mut [u32; 1000] = &mut leading_space;
     let padded: &mut [u32; 1000] = &mut padded_space;
     fill(leading, padded);
-    replay_trace(leading, padded);
+    replay_trace(leading, padded, rt);
 }
 
 // Lends a replay its memory, its windows and its two buffers.
-fn replay_trace(leading: &[u32; 1000], padded: &[u32; 1000])
+fn replay_trace(leading: &[u32; 1000], padded: &[u32; 1000], rt: HostRuntime)
     requires { Tables leading.now padded.now }
 {
     let mut memory_space = [0u8; 32768];
     let mut windows_space = [0u32; 32];
-    let mut buffer_space = io::large_buffer();
-    let mut out_space = io::large_buffer();
+    let mut buffer_space = [0u8; 65536];
+    let mut out_space = [0u8; 65536];
     let memory: &mut [u8] = &mut memory_space;
     let windows: &mut [u32] = &mut windows_space;
     let buffer: &mut [u8] = &mut buffer_space;
     let out: &mut [u8] = &mut out_space;
-    let flow = run(memory, windows, buffer, leading, padded, out);
-    report(flow.over);
+    let flow = run(memory, windows, buffer, leading, padded, out, rt);
+    report(flow.over, rt.stderr());
 }
 
 // Turns until the replay is over.
@@ -54,29 +54,30 @@ fn run(
     leading: &[u32; 1000],
     padded: &[u32; 1000],
     out: &mut [u8],
+    rt: HostRuntime,
 ) -> Flow
     requires { (memory.old ≡ start_memory) × (windows.old ≡ start_windows) × (length buffer.old ≡ room) × (length out.old ≡ room) × Tables leading.now padded.now }
     ensures { Fits result buffer.new × Reached result buffer.new memory.new windows.new }
 {
-    let mut flow = begin(out);
+    let mut flow = begin(out, rt.stdout());
     let mut turns = MOST_TURNS;
     while turns > 0 {
         if flow.over {
             break;
         }
-        flow = flow_on(flow, memory, windows, buffer, leading, padded, out);
+        flow = flow_on(flow, memory, windows, buffer, leading, padded, out, rt);
         turns -= 1;
     }
     flow
 }
 
 // The header comes before anything is read.
-fn begin(out: &mut [u8]) -> Flow
+fn begin(out: &mut [u8], stdout: Stdout) -> Flow
     requires { length out.old ≡ room }
     ensures { Begins result out.new }
 {
     let put = put_header(out, 0);
-    opened(send(out, put))
+    opened(send(out, put, stdout))
 }
 
 // One turn: some input, and the lines it gives.
@@ -88,15 +89,16 @@ fn flow_on(
     leading: &[u32; 1000],
     padded: &[u32; 1000],
     out: &mut [u8],
+    rt: HostRuntime,
 ) -> Flow
     requires { Fits flow buffer.old × (32 ≤ length windows.old) × (length out.old ≡ room) × (flow.position + room < 2 ^ 64) × Tables leading.now padded.now }
     ensures { Flows flow buffer.old memory.old windows.old out.old result buffer.new memory.new windows.new out.new }
 {
-    let flow = refill(flow, buffer);
+    let flow = refill(flow, buffer, rt.stdin(), rt.stderr());
     if flow.over {
         return flow;
     }
-    forward(flow, memory, windows, buffer, leading, padded, out)
+    forward(flow, memory, windows, buffer, leading, padded, out, rt.stdout())
 }
 
 // The lines that the pending bytes give, and their way out.
@@ -108,6 +110,7 @@ fn forward(
     leading: &[u32; 1000],
     padded: &[u32; 1000],
     out: &mut [u8],
+    stdout: Stdout,
 ) -> Flow
     requires { Fits flow buffer.now × (32 ≤ length windows.old) × (flow.position + room < 2 ^ 64) × Tables leading.now padded.now }
     ensures { Forwards flow buffer.now memory.old windows.old out.old result memory.new windows.new out.new }
@@ -129,13 +132,13 @@ fn forward(
         padded,
         out,
     );
-    let sent = send(out, passed.put);
+    let sent = send(out, passed.put, stdout);
     after_pass(flow, passed, sent)
 }
 
 // Sends the first `put` bytes of the buffer; false if nobody takes them.
-fn send(out: &[u8], put: usize) -> bool
+fn send(out: &[u8], put: usize, mut stdout: Stdout) -> bool
     requires { put ≤ length out.now }
 {
-    io::write_all(STDOUT_FILENO, &out[..put])
+    stdout.write_all(&out[..put]).is_ok()
 }

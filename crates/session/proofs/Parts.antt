@@ -1,4 +1,4 @@
--- A part of one list copied over a part of another, as `bytes::copy` leaves it, is `sets` of the part.
+-- A part of one list copied over a part of another is `sets` of the part.
 use mathlib.Core.Path.{◌≡◌, sym, ap, ◌∙◌}
 use mathlib.Core.List.{List, ◌++◌, append_assoc, append-nil}
 use Prim.Native.Nat.{ℕ, ◌+◌, ◌-◌, ◌≤◌}
@@ -8,20 +8,14 @@ use lib.Seq.{sets, sets-eq, drop-drop, take-length, length-take-le}
 use borrow.Rule.Slice.PartMut.{put_mid}
 
 pub copied-part : (input m : List ℕ) (from to n : ℕ) → from + n ≤ length input → to + n ≤ length m → (put : List ℕ)
-    → put ≡ take (length (take (from + n - from) (drop from input))) (take (from + n - from) (drop from input))
-    ++ drop (length (take (from + n - from) (drop from input))) (take (to + n - to) (drop to m))
+    → put ≡ take (from + n - from) (drop from input)
     → put_mid to (to + n - to) m put ≡ sets m to (take n (drop from input))
 copied-part input m from to n source target put e =
     let s : List ℕ = take n (drop from input) in
     let wide : from + n - from ≡ n = omega arith in
     let long : length s ≡ n = length-take-le n (drop from input) (simp length-drop (omega arith)) in
     let part : take (from + n - from) (drop from input) ≡ s = ap (λ (k : ℕ). take k (drop from input)) wide in
-    let room : length (take (to + n - to) (drop to m)) ≤ length s =
-    omega (arith, length-take-le (to + n - to) (drop to m) (simp length-drop (omega arith))) in
-    let whole : put ≡ s =
-    e ∙ ap (λ (l : List ℕ). take (length l) l ++ drop (length l) (take (to + n - to) (drop to m))) part
-    ∙ ap (λ (l : List ℕ). l ++ drop (length s) (take (to + n - to) (drop to m))) (take-length s)
-    ∙ ap (λ (l : List ℕ). s ++ l) (drop_of_length-le (take (to + n - to) (drop to m)) room) ∙ append-nil s in
+    let whole : put ≡ s = e ∙ part in
     let end : to + (to + n - to) ≡ to + length s = omega arith in
     ap (put_mid to (to + n - to) m) whole
     ∙ ap (λ (l : List ℕ). take to m ++ (s ++ l)) (drop-drop (to + n - to) to m ∙ ap (λ (k : ℕ). drop k m) end)

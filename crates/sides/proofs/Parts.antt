@@ -15,23 +15,15 @@ use Rattle.sides.proofs.Places.{Period, length-read, read-append, read_again}
 pub part_length : (m : List ℕ) (a n : ℕ) → a + n ≤ length m → length (take n (drop a m)) ≡ n
 part_length m a n fits = length-take-le n (drop a m) (simp length-drop (omega arith))
 
--- what `bytes::copy` leaves in a part, `put`, of the part s: the code's parts end at a + n, so their lengths are differences
+-- what a copy leaves in a part, `put`, of the part s: the code's parts end at a + n, so their lengths are differences
 pub copied-part : (s m : List ℕ) (at to n : ℕ) → at + n ≤ length s → to + n ≤ length m → (put : List ℕ)
-    → put ≡ take (length (take (at + n - at) (drop at s))) (take (at + n - at) (drop at s))
-    ++ drop (length (take (at + n - at) (drop at s))) (take (to + n - to) (drop to m))
+    → put ≡ take (at + n - at) (drop at s)
     → put_mid to (to + n - to) m put ≡ sets m to (take n (drop at s))
-copied-part s m at to n source target put e =
+copied-part s m at to n source target put whole =
     let x : List ℕ = take (at + n - at) (drop at s) in
     let width : at + n - at ≡ n = omega arith in
     let same : x ≡ take n (drop at s) = ap (λ (k : ℕ). take k (drop at s)) width in
     let long : length x ≡ n = ap length same ∙ part_length s at n source in
-    let room : length (take (to + n - to) (drop to m)) ≤ length x =
-    omega (arith, part_length m to (to + n - to) (omega arith)) in
-    let whole : put ≡ x =
-    e
-    ∙ ap (λ (l : List ℕ). l ++ drop (length x) (take (to + n - to) (drop to m))) (take-length x)
-    ∙ ap (λ (l : List ℕ). x ++ l) (drop_of_length-le (take (to + n - to) (drop to m)) room)
-    ∙ append-nil x in
     let end : to + (to + n - to) ≡ to + length x = omega arith in
     ap (put_mid to (to + n - to) m) whole
     ∙ ap (λ (l : List ℕ). take to m ++ (x ++ l)) (drop-drop (to + n - to) to m ∙ ap (λ (k : ℕ). drop k m) end)

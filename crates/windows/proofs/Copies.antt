@@ -56,3 +56,12 @@ has-windows t ws i h has = has-count t has ∙ flat-length (take i ws) ∙ ap (�
 -- those in use
 pub has-in-use : (t : Table) {ns : List ℕ} → Has t ns → Has t (in_use t)
 has-in-use t h = record { whole = h.whole; fits = h.fits; holds = refl }
+
+-- one window more
+pub has-next : (t u : Table) (ws : List Window) (i : ℕ) (d : Window) → i < length ws → Has t (flat_of (take i ws))
+    → Has u (in_use t ++ ((get_or ws i d).start ∷ (get_or ws i d).length ∷ [])) → Has u (flat_of (take (i + 1) ws))
+has-next t u ws i d h has more = record {
+  whole = more.whole;
+  fits = more.fits;
+  holds = more.holds ∙ ap (λ (l : List ℕ). l ++ ((get_or ws i d).start ∷ (get_or ws i d).length ∷ [])) has.holds ∙ flat-next ws i d h;
+}

@@ -50,7 +50,7 @@ turn_at c =
     let start = c in
     let a = start.args in
     let e = c.next_bytes-bytes.ensures in
-    let b = bytes_fit a.settings a.writes (moved_to a.transfer v.moved) start.requires.settings_value (v.invariant.1.fits (less c)) in
+    let b = bytes_fit a.settings a.writes (moved_to a.transfer v.moved) start.requires.settings_value (v.invariant.1.fits (omega (arith, c.if-moved-transfer.false, c.loop-steps.invariant.1.within))) in
     good_turn a.settings a.reads a.writes a.transfer (windows_of a.windows.now) a.memory.now start.requires.settings_value v.invariant.1
     (omega (arith, e, b.some)) e (omega (arith, c.if-limit-moved.false, c.good_sides-good.ensures))
 

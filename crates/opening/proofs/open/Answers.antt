@@ -33,5 +33,5 @@ returns c =
     record {
       passed = refl;
       puts = as-text (ap line_of told.ensures ∙ no [] test refl) put;
-      short = omega (arith, put.past, line-most told.result (omega (arith, told.type-inv)) (omega (arith, told.type-inv)) (omega (arith, told.type-inv)));
+      short = omega (arith, put.past, line-most told.result (omega (arith, told.type_inv)) (omega (arith, told.type_inv)) (omega (arith, told.type_inv)));
     }

@@ -8,7 +8,7 @@ use Rattle.spelling.proofs.load.Goals as goal
 pub returns-then-not-spelled : goal.returns-then-not-spelled
 returns-then-not-spelled c =
     let spelled = c in
-    not-spelled spelled.args.words.now (sym spelled.spelled.ensures ∙ not-true spelled.spelled.result c.if-not-spelled.true)
+    not-spelled spelled.args.words.now (sym spelled.spelled.ensures ∙ c.if-not-spelled.true)
     (c.ill_formed.ensures ∙ ap ill_formed_of spelled.settings-settings.ensures)
 
 pub returns : goal.returns
@@ -17,7 +17,7 @@ returns c =
     let spelled = control in
     let w = spelled.args.words.now in
     let phases = c.phase.ensures ∙ ap (λ (t : Transfer). phase_from (word w 15) t) control.transfer-transfer.ensures in
-    spelled-engine w (sym spelled.spelled.ensures ∙ not-false spelled.spelled.result control.if-not-spelled.false)
+    spelled-engine w (sym spelled.spelled.ensures ∙ control.if-not-spelled.false)
     (λ i. record {
       settings = spelled.settings-settings.ensures i;
       control = control.control.ensures i;

@@ -36,7 +36,7 @@ returns-then-number-ne0 c =
     midst-last v.invariant (bad_of s _ (a.base + v.at))
     (as-refused s v.sequence v.bits v.clock (a.base + v.at) a.input.now v.at c.judged-clocked.ensures (λ z. c.if-number-ne0.true (c.number.ensures ∙ z)))
     refl c.bad_line-line.ensures c.put_line-put.ensures
-    (omega (arith, c.put_line-put.ensures.past, line-most line (omega (arith, c.bad_line-line.type-inv)) (omega (arith, c.bad_line-line.type-inv)) (omega (arith, c.bad_line-line.type-inv))))
+    (omega (arith, c.put_line-put.ensures.past, line-most line (omega (arith, c.bad_line-line.type_inv)) (omega (arith, c.bad_line-line.type_inv)) (omega (arith, c.bad_line-line.type_inv))))
 
 pub put_clock_line-put-requires : goal.put_clock_line-put-requires
 put_clock_line-put-requires c =
@@ -46,7 +46,7 @@ pub goes_on-requires : goal.goes_on-requires
 goes_on-requires c =
     let v = c.loop-settings in
     let line = c.clock_line-line.result in
-    let most = line-most line (omega (arith, c.clock_line-line.type-inv)) (omega (arith, c.clock_line-line.type-inv)) (omega (arith, c.clock_line-line.type-inv)) in
+    let most = line-most line (omega (arith, c.clock_line-line.type_inv)) (omega (arith, c.clock_line-line.type_inv)) (omega (arith, c.clock_line-line.type_inv)) in
     ((midst-inside v.invariant).1, omega arith, omega (arith, c.put_clock_line-put.ensures.past, most, v.invariant.free, v.invariant.same, puts-length c.put_clock_line-put.ensures))
 
 -- the loop goes on: the next record is whole
@@ -86,7 +86,7 @@ loop-settings-preserved c =
     let v = c.loop-settings in
     let s = clocking a.session v.monitor v.before in
     let line = c.clock_line-line.result in
-    let most = line-most line (omega (arith, c.clock_line-line.type-inv)) (omega (arith, c.clock_line-line.type-inv)) (omega (arith, c.clock_line-line.type-inv)) in
+    let most = line-most line (omega (arith, c.clock_line-line.type_inv)) (omega (arith, c.clock_line-line.type_inv)) (omega (arith, c.clock_line-line.type_inv)) in
     let after = clocking a.session c.judged-clocked.result.monitor v.sequence in
     let g = sym c.goes_on.ensures ∙ c.if-not-goes_on.false in
     let same = puts-length c.put_clock_line-put.ensures ∙ v.invariant.same in
@@ -109,7 +109,7 @@ returns c =
     let v = c.loop-settings in
     let s = clocking a.session v.monitor v.before in
     let line = c.clock_line-line.result in
-    let most = line-most line (omega (arith, c.clock_line-line.type-inv)) (omega (arith, c.clock_line-line.type-inv)) (omega (arith, c.clock_line-line.type-inv)) in
+    let most = line-most line (omega (arith, c.clock_line-line.type_inv)) (omega (arith, c.clock_line-line.type_inv)) (omega (arith, c.clock_line-line.type_inv)) in
     midst-last v.invariant (clocked_of s v.sequence (seen c.judged-clocked.result))
     (as-taken s v.sequence v.bits v.clock (a.base + v.at) a.input.now v.at c.judged-clocked.ensures (sym c.number.ensures ∙ c.if-number-ne0.false))
     (ap under_way v.invariant.order.mode) (c.clock_line-line.ensures ∙ ap (clock_line_of v.sequence c.judged-clocked.result.count) c.lowest.ensures) c.put_clock_line-put.ensures (omega (arith, c.put_clock_line-put.ensures.past, most))

@@ -28,7 +28,7 @@ goes_on_writing-requires c =
     let k = v.invariant.2 in
     let s = with_engine a.session v.invariant.0 v.engine in
     let line = c.write_line-line.result in
-    let most = line-most line (omega (arith, c.write_line-line.type-inv)) (omega (arith, c.write_line-line.type-inv)) (omega (arith, c.write_line-line.type-inv)) in
+    let most = line-most line (omega (arith, c.write_line-line.type_inv)) (omega (arith, c.write_line-line.type_inv)) (omega (arith, c.write_line-line.type_inv)) in
     ((midst-inside k).1, omega (arith, c.put_write_line-put.ensures.past, most, k.free, k.same, puts-length c.put_write_line-put.ensures))
 
 -- the loop goes on: the next record is whole
@@ -73,7 +73,7 @@ loop-chosen-preserved c =
     let k = v.invariant.2 in
     let s = with_engine a.session v.invariant.0 v.engine in
     let line = c.write_line-line.result in
-    let most = line-most line (omega (arith, c.write_line-line.type-inv)) (omega (arith, c.write_line-line.type-inv)) (omega (arith, c.write_line-line.type-inv)) in
+    let most = line-most line (omega (arith, c.write_line-line.type_inv)) (omega (arith, c.write_line-line.type_inv)) (omega (arith, c.write_line-line.type_inv)) in
     let g = sym c.goes_on_writing.ensures ∙ c.if-not-goes_on_writing.false in
     let after = with_engine a.session v.sequence c.write-written.result.engine in
     let same = puts-length c.put_write_line-put.ensures ∙ k.same in (
@@ -100,7 +100,7 @@ returns c =
     let k = v.invariant.2 in
     let s = with_engine a.session v.invariant.0 v.engine in
     let line = c.write_line-line.result in
-    let most = line-most line (omega (arith, c.write_line-line.type-inv)) (omega (arith, c.write_line-line.type-inv)) (omega (arith, c.write_line-line.type-inv)) in
+    let most = line-most line (omega (arith, c.write_line-line.type_inv)) (omega (arith, c.write_line-line.type_inv)) (omega (arith, c.write_line-line.type_inv)) in
     midst-last k (written_of s v.sequence v.offset (write_seen c.write-written.result))
     (as_written s v.sequence v.offset v.value (a.base + v.invariant.1) a.input.now v.invariant.1 c.write-written.ensures)
     (ap under_way k.order.mode) c.write_line-line.ensures c.put_write_line-put.ensures (omega (arith, c.put_write_line-put.ensures.past, most))

@@ -18,4 +18,4 @@ returns c =
     let a = c.args in
     λ w o. no _ (le-ltb _ _ c.if-memory-end.false)
     (ap {B = After} (λ (m : List ℕ). after (record { session = with_sequence a.session a.sequence; line = record { sequence = a.sequence; word = words.Memory; first = a.address; second = a.count } }) (lend m w o))
-    (copied-part a.input.now a.memory.now a.from a.address a.count c.requires c.if-memory-end.false c.copy.new.1.0 c.copy.ensures.1))
+    (copied-part a.input.now a.memory.now a.from a.address a.count c.requires c.if-memory-end.false c.copy_from_slice.new.self c.copy_from_slice.ensures.after))

@@ -12,9 +12,9 @@ returns-then-not-legal c =
 pub returns-then-not-well_formed : goal.returns-then-not-well_formed
 returns-then-not-well_formed c =
     let s = c.load-engine.result in
-    line-state s (sym c.legal.ensures ∙ c.if-not-legal.false) (sym c.well-formed-2.ensures ∙ c.if-not-well_formed.true) ∙ ap (λ (x : Engine). line_of x) c.load-engine.ensures
+    line-state s (sym c.legal.ensures ∙ c.if-not-legal.false) (sym c.well_formed-2.ensures ∙ c.if-not-well_formed.true) ∙ ap (λ (x : Engine). line_of x) c.load-engine.ensures
 
 pub returns : goal.returns
 returns c =
     let s = c.load-engine.result in
-    line-high s (sym c.legal.ensures ∙ c.if-not-legal.false) (sym c.well-formed-2.ensures ∙ c.if-not-well_formed.false) c.interrupt_line.ensures ∙ ap (λ (x : Engine). line_of x) c.load-engine.ensures
+    line-high s (sym c.legal.ensures ∙ c.if-not-legal.false) (sym c.well_formed-2.ensures ∙ c.if-not-well_formed.false) c.interrupt_line.ensures ∙ ap (λ (x : Engine). line_of x) c.load-engine.ensures

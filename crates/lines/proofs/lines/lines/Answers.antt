@@ -43,7 +43,7 @@ pub returns-then-stops : goal.returns-then-stops
 returns-then-stops c =
     let v = c.loop-put in
     telling-stop v.invariant.0 (sym c.stops.ensures ∙ c.if-stops.true) c.stop_line-line.ensures c.put_stop_line-put.ensures (omega (arith, c.loop-put-test.true, c.requires.put_in_bounds))
-    (omega (arith, c.put_stop_line-put.ensures.past, line-most c.stop_line-line.result (omega (arith, c.stop_line-line.type-inv)) (omega (arith, c.stop_line-line.type-inv)) (omega (arith, c.stop_line-line.type-inv))))
+    (omega (arith, c.put_stop_line-put.ensures.past, line-most c.stop_line-line.result (omega (arith, c.stop_line-line.type_inv)) (omega (arith, c.stop_line-line.type_inv)) (omega (arith, c.stop_line-line.type_inv))))
 
 pub slice_bounds-advance-end : goal.slice_bounds-advance-end
 slice_bounds-advance-end c =
@@ -81,8 +81,8 @@ loop-put-preserved c =
     let keeps = advance-keeps v.engine v.memory (windows_of (take (used_of a.session.windows) a.windows.now)) in (
       telling-same
           (telling-step v.invariant.0 go ens (λ i. (c.type_inv.memory i).fits) c.event_line-line.ensures c.put_line-put.ensures (omega (arith, c.loop-put-test.true, c.requires.put_in_bounds))
-          (omega (arith, c.put_line-put.ensures.past, line-most c.event_line-line.result (omega (arith, c.event_line-line.type-inv)) (omega (arith, c.event_line-line.type-inv)) (omega (arith, c.event_line-line.type-inv)))))
-          (ap (λ (x : AfterAdvance). x.engine-1.settings) ens ∙ keeps.engine.settings ∙ v.invariant.1) (ap (λ (x : AfterAdvance). x.engine-1.simple) ens ∙ keeps.engine.simple ∙ v.invariant.2),
+          (omega (arith, c.put_line-put.ensures.past, line-most c.event_line-line.result (omega (arith, c.event_line-line.type_inv)) (omega (arith, c.event_line-line.type_inv)) (omega (arith, c.event_line-line.type_inv)))))
+          (ap (λ (x : AfterAdvance). x.engine.settings) ens ∙ keeps.engine.settings ∙ v.invariant.1) (ap (λ (x : AfterAdvance). x.engine.simple) ens ∙ keeps.engine.simple ∙ v.invariant.2),
       refl,
       refl,
     )

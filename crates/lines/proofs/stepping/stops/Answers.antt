@@ -16,11 +16,11 @@ pub returns-then-not-accepted : goal.returns-then-not-accepted
 returns-then-not-accepted c =
     let a = c.args in
     no true (ne_eqb _ 0 c.if-left-eq0.false)
-    (no true (lt-leb _ _ c.if-taken-ge-MOST_STEPS.false) (yes (not (busy_of a.phase)) (ap not {x = a.accepted} {y = false} (not-true a.accepted c.if-not-accepted.true)) refl))
+    (no true (lt-leb _ _ c.if-taken-ge-MOST_STEPS.false) (yes (not (busy_of a.phase)) (ap not {x = a.accepted} {y = false} (c.if-not-accepted.true)) refl))
 
 pub returns : goal.returns
 returns c =
     let a = c.args in
     no true (ne_eqb _ 0 c.if-left-eq0.false)
     (no true (lt-leb _ _ c.if-taken-ge-MOST_STEPS.false)
-    (no true (ap not {x = a.accepted} {y = true} (not-false a.accepted c.if-not-accepted.false)) (ap not c.busy.ensures)))
+    (no true (ap not {x = a.accepted} {y = true} (c.if-not-accepted.false)) (ap not c.busy.ensures)))

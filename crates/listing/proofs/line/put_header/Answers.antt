@@ -5,4 +5,4 @@ use Rattle.listing.proofs.line.put_header.Goals as goal
 
 pub returns : goal.returns
 unfolding header_of
-returns c = let a = c.args in header-put a.out.now a.at c.copy.new.1.0 (omega arith) c.copy.ensures.1
+returns c = let a = c.args in header-put a.out.now a.at c.copy_from_slice.new.self (omega arith) c.copy_from_slice.ensures.after

@@ -28,10 +28,10 @@ pub returns-then-not-before : goal.returns-then-not-before
 unfolding held_flags
 returns-then-not-before c =
     let k = c.args in
-    no _ (not-true (waiting k.before) c.if-not-before.true) refl
+    no _ (c.if-not-before.true) refl
 
 pub returns : goal.returns
 unfolding held_flags
 returns c =
     let k = c.args in
-    yes _ (not-false (waiting k.before) c.if-not-before.false) (joined k.flags (held_table k.before k.clock) (chosen (goal.at.returns c).After-choose-raised-10))
+    yes _ (c.if-not-before.false) (joined k.flags (held_table k.before k.clock) (chosen (goal.at.returns c).After-choose-raised-10))

@@ -1,16 +1,15 @@
 use mathlib.Core.Path.{◌≡◌, sym, ap, ◌∙◌}
-use mathlib.Core.Bool.{Bool, true, false, not}
-use borrow.Author.Tests.{not-true, not-false}
+use mathlib.Core.Bool.{Bool, true, false}
 use Rattle.kit.proofs.Choice.{yes, no}
 use Rattle.monitor.specs.Monitor.{taken}
 use Rattle.monitor.proofs.monitor.bus_clock.Goals as goal
 
 -- a judge's answer is what its contract says, and the branch says which it was
-failed : {t u : Bool} → t ≡ u → not t ≡ true → u ≡ false
-failed {t} e h = sym e ∙ not-true t h
+failed : {t u : Bool} → t ≡ u → t ≡ false → u ≡ false
+failed e h = sym e ∙ h
 
-passed : {t u : Bool} → t ≡ u → not t ≡ false → u ≡ true
-passed {t} e h = sym e ∙ not-false t h
+passed : {t u : Bool} → t ≡ u → t ≡ true → u ≡ true
+passed e h = sym e ∙ h
 
 pub returns-then-not-legal : goal.returns-then-not-legal
 returns-then-not-legal c = no _ (failed c.legal.ensures c.if-not-legal.true) c.refuse.ensures

@@ -64,7 +64,7 @@ turn_at c =
     let start = c in
     let a = start.args in
     let v = c.loop-steps in
-    plain_turn a.settings a.transfer (windows_of a.windows.now) a.memory.now start.requires.settings_value start.requires.memory_len_bound v.invariant.1 (less c) c.bytes_within-bytes.ensures
+    plain_turn a.settings a.transfer (windows_of a.windows.now) a.memory.now start.requires.settings_value start.requires.memory_len_bound v.invariant.1 (omega (arith, c.if-moved-transfer.false, c.loop-steps.invariant.1.sofar.within)) c.bytes_within-bytes.ensures
     (omega (arith, c.if-limit-moved.false, c.good_ahead.ensures))
 
 pub overflow_add-from : goal.overflow_add-from

@@ -7,8 +7,8 @@ returns-then-not-legal c = no _ (sym c.legal.ensures ∙ c.if-not-legal.true) re
 
 pub returns-then-not-well_formed : goal.returns-then-not-well_formed
 returns-then-not-well_formed c =
-    yes _ (sym c.legal.ensures ∙ c.if-not-legal.false) (no _ (sym c.well-formed-2.ensures ∙ c.if-not-well_formed.true) refl)
+    yes _ (sym c.legal.ensures ∙ c.if-not-legal.false) (no _ (sym c.well_formed-2.ensures ∙ c.if-not-well_formed.true) refl)
 
 pub returns : goal.returns
 returns c =
-    yes _ (sym c.legal.ensures ∙ c.if-not-legal.false) (yes _ (sym c.well-formed-2.ensures ∙ c.if-not-well_formed.false) c.read_register.ensures)
+    yes _ (sym c.legal.ensures ∙ c.if-not-legal.false) (yes _ (sym c.well_formed-2.ensures ∙ c.if-not-well_formed.false) c.read_register.ensures)

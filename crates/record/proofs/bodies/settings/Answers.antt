@@ -8,7 +8,7 @@ use Rattle.record.proofs.bodies.settings.Goals as goal
 pub returns-then-not-first : goal.returns-then-not-first
 returns-then-not-first c =
     let a = c.args in
-    barred a.input.now a.at a.first (settings_kind a.two) (settings-allowed _ _ _ a.two ∙ c.if-not-first.true)
+    barred a.input.now a.at a.first (settings_kind a.two) (settings-allowed a.input.now a.at a.first a.two ∙ c.if-not-first.true)
 
 pub returns-then-input-at-lt-CF : goal.returns-then-input-at-lt-CF
 returns-then-input-at-lt-CF c =

@@ -22,5 +22,5 @@ returns c =
     record {
       passed = refl;
       puts = as_line c.bad_line-line.ensures put;
-      short = omega (arith, put.past, line-most line (omega (arith, c.bad_line-line.type-inv)) (omega (arith, c.bad_line-line.type-inv)) (omega (arith, c.bad_line-line.type-inv)));
+      short = omega (arith, put.past, line-most line (omega (arith, c.bad_line-line.type_inv)) (omega (arith, c.bad_line-line.type_inv)) (omega (arith, c.bad_line-line.type_inv)));
     }

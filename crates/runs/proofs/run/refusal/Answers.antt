@@ -21,9 +21,9 @@ returns-then-windows-gt-MOST_WINDOWS c =
 pub returns-then-not-well_formed : goal.returns-then-not-well_formed
 unfolding refusal_of
 returns-then-not-well_formed c =
-    yes _ (sym c.legal.ensures ∙ c.if-not-legal.false) (no _ (le-ltb _ _ c.if-size-gt-MOST_MEMORY.false) (no _ (le-ltb _ _ c.if-windows-gt-MOST_WINDOWS.false) (no _ (sym c.well-formed-2.ensures ∙ c.if-not-well_formed.true) refl)))
+    yes _ (sym c.legal.ensures ∙ c.if-not-legal.false) (no _ (le-ltb _ _ c.if-size-gt-MOST_MEMORY.false) (no _ (le-ltb _ _ c.if-windows-gt-MOST_WINDOWS.false) (no _ (sym c.well_formed-2.ensures ∙ c.if-not-well_formed.true) refl)))
 
 pub returns : goal.returns
 unfolding refusal_of
 returns c =
-    yes _ (sym c.legal.ensures ∙ c.if-not-legal.false) (no _ (le-ltb _ _ c.if-size-gt-MOST_MEMORY.false) (no _ (le-ltb _ _ c.if-windows-gt-MOST_WINDOWS.false) (yes _ (sym c.well-formed-2.ensures ∙ c.if-not-well_formed.false) refl)))
+    yes _ (sym c.legal.ensures ∙ c.if-not-legal.false) (no _ (le-ltb _ _ c.if-size-gt-MOST_MEMORY.false) (no _ (le-ltb _ _ c.if-windows-gt-MOST_WINDOWS.false) (yes _ (sym c.well_formed-2.ensures ∙ c.if-not-well_formed.false) refl)))

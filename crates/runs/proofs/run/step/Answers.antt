@@ -4,6 +4,7 @@ use lib.ListN.{length}
 use Rattle.runs.proofs.Acceptable.{unrefused-acceptable}
 use Rattle.runs.proofs.Entries.{step-refused, step-taken}
 use Rattle.runs.proofs.run.step.Goals as goal
+use Rattle.runs.proofs.run.step.Goals.{Else-number-ne0}
 
 pub returns-then-number-ne0 : goal.returns-then-number-ne0
 returns-then-number-ne0 c =
@@ -17,7 +18,7 @@ walk-walked-requires c =
     let a = c.args in
     let n = c.refusal-answer.ensures in
     let k = c.number.ensures in
-    let p = unrefused-acceptable a.engine a.memory.now (length a.windows.now / 2) (sym n ∙ sym k ∙ c.if-number-ne0.false) (λ i. (c.type_inv.memory i).fits) in record { settings_value = p.legal; memory_len_bound = p.small; engine_value = p.well }
+    let p = unrefused-acceptable a.engine a.memory.now (length a.windows.now / 2) (sym n ∙ sym k ∙ c.if-number-ne0.false) (λ i. ((goal.at.walk-walked-requires c).Else-number-ne0.type_inv.memory i).fits) in record { settings_value = p.legal; memory_len_bound = p.small; engine_value = p.well }
 
 pub returns : goal.returns
 returns c =

@@ -24,7 +24,7 @@ returns-then-transfer-eq0 c =
     let reading = c.if-reads.false in
     let writing = c.if-writes.false in
     let g = c.glide.ensures in
-    let h = subst (λ (t : Transfer). Glides a.settings false false t (windows_of a.windows.now) a.memory.now c.glide.result c.glide.new.1.1.0)
+    let h = subst (λ (t : Transfer). Glides a.settings false false t (windows_of a.windows.now) a.memory.now c.glide.result c.glide.new.memory)
     (same a.transfer c.if-transfer-eq0.true) g.glides in record { glides = λ s event p. h s event (record { set = p.set; source = p.source ∙ reading; destination = p.destination ∙ writing; phase = p.phase }); steps_le_most = g.steps_le_most }
 
 pub returns : goal.returns

@@ -13,4 +13,4 @@ pub returns : goal.returns
 returns c =
     let start = c in
     let here = reaches-none (omega (arith, c.if-ahead-gt0.false)) c.bursts_ahead-ahead.ensures.reaches in
-    let more = start.requires.1.1.1 in record { reaches = reaches-one more.0 (ap (λ (x : AfterAdvance). x.memory-1) here) c.advance-advanced.ensures; steps_nonzero = (omega arith, omega (arith, more.1)) }
+ record { reaches = reaches-one start.requires.phase_value (ap (λ (x : AfterAdvance). x.memory) here) c.advance-advanced.ensures; steps_nonzero = (omega arith, omega (arith, start.requires.most_nonzero)) }

@@ -10,6 +10,7 @@ use Rattle.steps.specs.declared.event.Event.TheVariants.{None}
 use Rattle.steps.specs.Step.{advance_seen}
 use Rattle.runs.proofs.Walks.{reaches_same, reaches-length, reaches-lasts, walking-begin, walking_on, walking-done, walking-idle}
 use Rattle.runs.proofs.walk.walk.Goals as goal
+use Rattle.runs.proofs.walk.walk.Goals.{else-loop-steps-test, then-loop-steps-test+then-not-busy}
 
 -- an engine whose settings and SA, DA and BTT are taken from elsewhere
 rebuilt : (e : Engine) {settings : Settings} {simple : Simple} → settings ≡ e.settings → simple ≡ e.simple
@@ -51,4 +52,7 @@ shape_of-memory c = c.loop-steps.invariant.0
 pub returns : goal.returns
 returns c =
     let v = c.loop-steps in
-    ⊎_elim (λ w. walking-done v.invariant.1 w.left) (λ w. walking-idle v.invariant.1 (sym w.2.ensures ∙ not-true _ w.3.taken)) c.loop-steps-test.branch
+    elim c.loop-steps-test.branch [
+      else-loop-steps-test w ↦ walking-done v.invariant.1 w.loop-steps-test.false
+    | then-loop-steps-test+then-not-busy w ↦ walking-idle v.invariant.1 (sym w.busy.ensures ∙ w.if-not-busy.true)
+    ]

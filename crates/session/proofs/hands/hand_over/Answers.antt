@@ -8,11 +8,11 @@ use Rattle.session.proofs.hands.hand_over.Goals as goal
 
 pub returns-then-not-calls : goal.returns-then-not-calls
 returns-then-not-calls c =
-    let a = c.args in no (swapped_with a.session a.other) (not-true a.calls c.if-not-calls.true) refl
+    let a = c.args in no (swapped_with a.session a.other) (c.if-not-calls.true) refl
 
 pub returns : goal.returns
 returns c =
     let a = c.args in
     let s = a.session in
-    yes s (not-false a.calls c.if-not-calls.false)
+    yes s (c.if-not-calls.false)
     (ap (with_chosen (with_engine s s.sequence (with_settings s.engine.settings a.other))) c.turned-chosen.ensures)

@@ -9,21 +9,22 @@ use Rattle.sides.specs.Sides.{place_of, sides_answer}
 use Rattle.sides.proofs.Answers.{plain-answer}
 use Rattle.sides.proofs.Moves.{plain_moved}
 use Rattle.sides.proofs.carry.carry.Goals as goal
+use Rattle.sides.proofs.carry.carry.Goals.{After-judge_pair-verdict}
 
 -- neither side is fixed
-plain : (d : tie.After-judge-pair) → let a = d.before.before.before.before.before.args in (a.sourcefixed ≡ false) × (a.destinationfixed ≡ false)
+plain : (d : After-judge_pair-verdict) → let a = d.args in (a.sourcefixed ≡ false) × (a.destinationfixed ≡ false)
 plain d =
-    let a = d.before.before.before.before.before.args in
-    neither a.sourcefixed a.destinationfixed (sym d.before.before.either.ensures ∙ d.before.if1.false)
+    let a = d.args in
+    neither a.sourcefixed a.destinationfixed (sym d.either.ensures ∙ d.if-either.false)
 
 -- so the two groups are what the sides answer
-answered : (d : tie.After-judge-pair) →
-    let a = d.before.before.before.before.before.args in
-    d.judge-pair.result
+answered : (d : After-judge_pair-verdict) →
+    let a = d.args in
+    d.judge_pair-verdict.result
     ≡ sides_answer (length a.memory.now) (windows_of a.windows.now) (place_of a.sourcefixed a.width a.source) (place_of a.destinationfixed a.width a.destination) a.from a.count
 answered d =
-    let a = d.before.before.before.before.before.args in
-    rw ((plain d).0, (plain d).1) (d.judge-pair.ensures ∙ sym (ap₂ worse (plain-answer _ _ a.width _ _ _) (plain-answer _ _ a.width _ _ _)))
+    let a = d.args in
+    rw ((plain d).0, (plain d).1) (d.judge_pair-verdict.ensures ∙ sym (ap₂ worse (plain-answer _ _ a.width _ _ _) (plain-answer _ _ a.width _ _ _)))
 
 pub copy-requires : goal.copy-requires
 copy-requires c =
@@ -37,10 +38,12 @@ returns-in-Okay c =
     let d = c in
     let start = d in
     let told = c.in-Okay.is in
-    let f = pair-okay-fits _ _ _ _ _ (sym d.judge_pair-verdict.ensures ∙ told) start.requires.width_nonzero.2 in record { value = sym told ∙ answered d; memory_after = rw ((plain d).0, (plain d).1) (c.copy.ensures ∙ sym (plain_moved _ start.args.width _ _ _ _ f.0)) }
+    let f = pair-okay-fits _ _ _ _ _ (sym d.judge_pair-verdict.ensures ∙ told) start.requires.width_nonzero.2 in record { value = sym told ∙ answered (goal.at.returns-in-Okay c).After-judge_pair-verdict; memory_after = rw ((plain (goal.at.returns-in-Okay c).After-judge_pair-verdict).0, (plain (goal.at.returns-in-Okay c).After-judge_pair-verdict).1) (c.copy.ensures ∙ sym (plain_moved _ start.args.width _ _ _ _ f.0)) }
 
 pub returns-in-Slave : goal.returns-in-Slave
-returns-in-Slave c = record { value = sym c.in-Slave.is ∙ answered c; memory_after = refl }
+returns-in-Slave c =
+    record { value = sym c.in-Slave.is ∙ answered (goal.at.returns-in-Slave c).After-judge_pair-verdict; memory_after = refl }
 
 pub returns-in-Decode : goal.returns-in-Decode
-returns-in-Decode c = record { value = sym c.in-Decode.is ∙ answered c; memory_after = refl }
+returns-in-Decode c =
+    record { value = sym c.in-Decode.is ∙ answered (goal.at.returns-in-Decode c).After-judge_pair-verdict; memory_after = refl }

@@ -18,18 +18,13 @@ part_length m a n fits = length-take-le n (drop a m) (simp length-drop (omega ar
 pub copied-through : (m : List ℕ) (from to n : ℕ) → from + n ≤ length m → to + n ≤ length m
     → (held front put : List ℕ)
     → front ≡ take (from + n - from) (drop from m)
-    → put ≡ take (n - 0) (put_mid 0 (n - 0) held front)
+    → put ≡ take n (front ++ drop n held)
     → put_mid to (to + n - to) m put ≡ copied m from to n
 copied-through m from to n source target held front put e f =
     let s : List ℕ = take n (drop from m) in
     let long : length s ≡ n = part_length m from n source in
     let same : front ≡ s = e ∙ ap (λ (k : ℕ). take k (drop from m)) (width from n) in
-    let zero : n - 0 ≡ n = omega arith in
-    let whole : put ≡ s =
-    f
-    ∙ ap (λ (l : List ℕ). take (n - 0) (put_mid 0 (n - 0) held l)) same
-    ∙ ap (λ (k : ℕ). take k (s ++ drop k held)) zero
-    ∙ take_at s (drop n held) n long in
+    let whole : put ≡ s = f ∙ ap (λ (l : List ℕ). take n (l ++ drop n held)) same ∙ take_at s (drop n held) n long in
     let end : to + (to + n - to) ≡ to + length s = omega arith in
     ap (put_mid to (to + n - to) m) whole
     ∙ ap (λ (l : List ℕ). take to m ++ (s ++ l)) (drop-drop (to + n - to) to m ∙ ap (λ (k : ℕ). drop k m) end)

@@ -11,8 +11,7 @@ pub fn copy(memory: &mut [u8], from: usize, to: usize, count: usize)
     requires { (from + count ≤ length memory.old) × (to + count ≤ length memory.old) × (count ≤ longest_burst) }
     ensures { memory.new ≡ copied memory.old from to count }
 {
-    let mut space = [0u8; LONGEST_BURST];
-    let held: &mut [u8] = &mut space;
+    let mut held = [0u8; LONGEST_BURST];
     let from_end = from + count;
     let to_end = to + count;
     held[..count].copy_from_slice(&memory[from..from_end]);

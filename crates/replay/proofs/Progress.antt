@@ -2,24 +2,24 @@
 use mathlib.Core.Path.{◌≡◌, refl, sym, ap, ap₂, subst, ◌∙◌}
 use mathlib.Core.Logic.{◌⊎◌, inl, inr}
 use Prim.Native.Nat.{ℕ, zero, suc, ◌+◌, ◌-◌, ◌≤◌, ◌<◌}
-use mathlib.Core.Bool.{Bool, true, false, not}
+use mathlib.Core.Bool.{Bool, true, false}
 use mathlib.Core.List.{List}
 use native.Mathlib.Omega.{arith}
 use lib.ListN.{length}
 use lib.IntN.{ℤ, pos, negsuc}
-use lib.Dec.{ltb, leb, eqb}
+use lib.Dec.{ltb, leb}
 use borrow.Author.Tests.{ltb-false, le-leb, eq-eqb}
 use Rattle.kit.specs.Choice.{when, both}
-use Rattle.kit.proofs.Choice.{decide, never, both-join}
+use Rattle.kit.proofs.Choice.{never, both-join}
 use Rattle.record.specs.Claims.{longest}
 use Rattle.session.specs.declared.Mode.{Mode}
 use Rattle.session.specs.declared.Mode.TheVariants.{Start, Records, Steps, Over}
 use Rattle.session.specs.declared.Session.{Session}
 use Rattle.session.specs.Pass.{ready_of, line_room}
 use Rattle.flow.specs.declared.flow.Flow.{Flow}
-use Rattle.flow.specs.Flow.{room, left_of, pending, Fits, wants_of, after_read, finished_of, over_of, after_pass}
+use Rattle.flow.specs.Flow.{room, left_of, pending, Fits, wants_of, after_read, finished_of, over_of}
 use Rattle.flow.specs.Input.{Refills}
-use Rattle.replay.specs.Turn.{Forwards, Flows, read_of, interrupted_by, Prints, Interrupted, Progress}
+use Rattle.replay.specs.Turn.{Forwards, read_of, interrupted_by, Prints, Interrupted, Progress}
 use Rattle.flow.proofs.Pending.{pending-length, refill-kept, refill-fits}
 use Rattle.replay.proofs.Places.{used-within}
 use Rattle.whole.proofs.Progress.{pass-puts}

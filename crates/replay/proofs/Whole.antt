@@ -1,6 +1,6 @@
 -- The turns of the program are a replay of the trace.
 use mathlib.Core.Path.{◌≡◌, refl, sym, ap, subst, ◌∙◌}
-use Prim.Native.Nat.{ℕ, suc, ◌+◌, ◌-◌, ◌*◌, ◌^◌, ◌≤◌, ◌<◌}
+use Prim.Native.Nat.{ℕ, ◌+◌, ◌-◌, ◌*◌, ◌^◌, ◌≤◌, ◌<◌}
 use mathlib.Core.Bool.{Bool, true, false}
 use mathlib.Core.List.{List, [], ◌++◌, append_assoc}
 use native.Mathlib.Omega.{arith}
@@ -18,7 +18,7 @@ use Rattle.session.specs.declared.Session.{Session}
 use Rattle.state.specs.declared.engine.Engine.{Engine}
 use Rattle.session.specs.Pass.{ready_of}
 use Rattle.listing.specs.Line.{header_of}
-use Rattle.whole.specs.Listing.{start_memory, start_windows, Replays, begun, passed, listing_of}
+use Rattle.whole.specs.Listing.{start_memory, start_windows, Replays, begun, passed}
 use Rattle.whole.proofs.Listing.{listing}
 use Rattle.record.specs.Claims.{longest}
 use Rattle.flow.specs.declared.flow.Flow.{Flow}

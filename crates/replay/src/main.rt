@@ -98,7 +98,16 @@ fn flow_on(
     if flow.over {
         return flow;
     }
-    forward(flow, memory, windows, buffer, leading, padded, out, rt.stdout())
+    forward(
+        flow,
+        memory,
+        windows,
+        buffer,
+        leading,
+        padded,
+        out,
+        rt.stdout(),
+    )
 }
 
 // The lines that the pending bytes give, and their way out.

@@ -7,4 +7,4 @@ returns c =
     let s = c in
     let a = s in
     let t = a in
-    ap₂ ◌&&◌ (ap₂ ◌&&◌ (ap₂ ◌&&◌ (ap₂ ◌&&◌ t.whole.ensures t.truths.ensures) a.aligned.ensures) s.settled.ensures) c.fits2.ensures
+    ap₂ ◌&&◌ (ap₂ ◌&&◌ (ap₂ ◌&&◌ (ap₂ ◌&&◌ t.whole.ensures t.truths.ensures) a.aligned.ensures) s.settled.ensures) c.fits.ensures

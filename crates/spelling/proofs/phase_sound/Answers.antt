@@ -15,7 +15,7 @@ pub returns-then-number-eq2 : goal.returns-then-number-eq2
 returns-then-number-eq2 c =
     let w = c.args.words.now in
     no _ (ne_eqb (word w 15) 0 c.if-number-eq0.false)
-    (yes _ (eq-eqb (word w 15) 2 c.if-number-eq2.true) (ap (λ (t : Bool). eqb (word w 5) 0 && t) c.fits2.ensures))
+    (yes _ (eq-eqb (word w 15) 2 c.if-number-eq2.true) (ap (λ (t : Bool). eqb (word w 5) 0 && t) c.fits.ensures))
 
 pub returns : goal.returns
 returns c =

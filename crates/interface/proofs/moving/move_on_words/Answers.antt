@@ -26,19 +26,19 @@ held c i = (c.type_inv.memory i).fits
 pub move_on-moved-requires : goal.move_on-moved-requires
 move_on-moved-requires c =
     let p = c in
-    let w = p.args.words.now in let both = (
-      ap (λ (s : Settings). legal_of s) p.settings.ensures ∙ (found (goal.at.move_on-moved-requires c).After-transfer).legal,
-      ap (λ (t : Transfer). transfer_fits t) p.transfer.ensures ∙ (midst w (found (goal.at.move_on-moved-requires c).After-transfer).moves).fits,
-    ) in record { settings_value = both.0; transfer_value = both.1 }
+    let w = p.args.words.now in
+    record {
+      settings_value = ap (λ (s : Settings). legal_of s) p.settings.ensures ∙ (found (goal.at.move_on-moved-requires c).After-transfer).legal;
+      transfer_value = ap (λ (t : Transfer). transfer_fits t) p.transfer.ensures ∙ (midst w (found (goal.at.move_on-moved-requires c).After-transfer).moves).fits;
+    }
 
 pub overflow_add-words : goal.overflow_add-words
 overflow_add-words c =
     let p = c in
     let a = p.args in
-    let r = c.moved-1.given in
     record {
-      fits = sum_fits a.words.now a.memory.now a.windows.now (held (goal.at.overflow_add-words c).After-transfer) (found (goal.at.overflow_add-words c).After-transfer) r.0.0
-          (advanced a.words.now a.memory.now a.windows.now (held (goal.at.overflow_add-words c).After-transfer) (found (goal.at.overflow_add-words c).After-transfer) r.0.0 p.settings.ensures p.transfer.ensures r.1
+      fits = sum_fits a.words.now a.memory.now a.windows.now (held (goal.at.overflow_add-words c).After-transfer) (found (goal.at.overflow_add-words c).After-transfer) c.in-Moved.burst
+          (advanced a.words.now a.memory.now a.windows.now (held (goal.at.overflow_add-words c).After-transfer) (found (goal.at.overflow_add-words c).After-transfer) c.in-Moved.burst p.settings.ensures p.transfer.ensures c.in-Moved.is
           c.move_on-moved.ensures);
     }
 
@@ -46,9 +46,8 @@ pub returns-in-Moved : goal.returns-in-Moved
 returns-in-Moved c =
     let p = c in
     let a = p.args in
-    let r = c.moved-1.given in
-    moved-left a.words.now a.memory.now a.windows.now (held (goal.at.returns-in-Moved c).After-transfer) (found (goal.at.returns-in-Moved c).After-transfer) r.0.0
-    (advanced a.words.now a.memory.now a.windows.now (held (goal.at.returns-in-Moved c).After-transfer) (found (goal.at.returns-in-Moved c).After-transfer) r.0.0 p.settings.ensures p.transfer.ensures r.1
+    moved-left a.words.now a.memory.now a.windows.now (held (goal.at.returns-in-Moved c).After-transfer) (found (goal.at.returns-in-Moved c).After-transfer) c.in-Moved.burst
+    (advanced a.words.now a.memory.now a.windows.now (held (goal.at.returns-in-Moved c).After-transfer) (found (goal.at.returns-in-Moved c).After-transfer) c.in-Moved.burst p.settings.ensures p.transfer.ensures c.in-Moved.is
     c.move_on-moved.ensures)
 
 pub returns-in_default : goal.returns-in_default
@@ -56,4 +55,4 @@ returns-in_default c =
     let m = c.move_on-moved in
     let p = c in
     let a = p.args in
-    nothing a.words.now a.memory.now a.windows.now m.new.1.1.0 p.settings.result p.transfer.result c.in_default.is m.ensures
+    nothing a.words.now a.memory.now a.windows.now m.new.memory p.settings.result p.transfer.result c.in_default.is m.ensures

@@ -4,4 +4,4 @@ use Rattle.interface.proofs.planning.belikumba_plan.Goals as goal
 
 pub returns : goal.returns
 returns c =
-    ap (λ (n : ℕ). record { answer = n; bursts = c.plan_bytes-planned.result.bursts; places = c.plan_bytes-planned.new.1.1.1.1.0 }) c.number.ensures ∙ c.plan_bytes-planned.ensures
+    ap (λ (n : ℕ). record { answer = n; bursts = c.plan_bytes-planned.result.bursts; places = c.plan_bytes-planned.new.places }) c.number.ensures ∙ c.plan_bytes-planned.ensures

@@ -12,7 +12,7 @@ legal : (c : After-legal) → c.legal.result ≡ legal_of (settings_from c.args.
 legal c = c.legal.ensures ∙ ap (λ (x : Settings). legal_of x) c.settings.ensures
 
 accepted : (c : Else-not-legal) → legal_of (settings_from c.args.words.now) ≡ true
-accepted c = sym (legal c) ∙ c.if-not-legal.false
+accepted c = sym (c.legal.ensures ∙ ap (λ (x : Settings). legal_of x) c.settings.ensures) ∙ c.if-not-legal.false
 
 pub returns-then-not-legal : goal.returns-then-not-legal
 returns-then-not-legal c =

@@ -22,7 +22,7 @@ taken : (c : After-engine_from) → let a = c.args in
 taken c =
     let judged = c in
     let a = judged.args in
-    accepted a.words.now a.memory.now (length a.windows.now / 2) (sym (number judged) ∙ c.if-answer-ne0.false) (λ i. (judged.type_inv.memory i).fits)
+    accepted a.words.now a.memory.now (length a.windows.now / 2) (sym (c.number-answer.ensures ∙ c.judge_words-answer.ensures) ∙ c.if-answer-ne0.false) (λ i. (judged.type_inv.memory i).fits)
 
 pub returns-then-answer-ne0 : goal.returns-then-answer-ne0
 returns-then-answer-ne0 c =

@@ -1,5 +1,4 @@
 use mathlib.Core.Path.{◌≡◌, refl, sym, ap, ap₂, subst, ◌∙◌}
-use mathlib.Core.Logic.{⊎_elim}
 use mathlib.Core.List.{List}
 use Prim.Native.Nat.{ℕ, ◌+◌}
 use native.Mathlib.Omega.{arith}
@@ -16,7 +15,7 @@ use Rattle.session.proofs.Records.{data-fits}
 use Rattle.session.proofs.Turns.{SameLengths, apply-lengths}
 use Rattle.records.proofs.Singles.{takes-turn, takes-single}
 use Rattle.records.proofs.records.records.Goals as goal
-use Rattle.records.proofs.records.records.Goals.{Else-stale, Joined-body}
+use Rattle.records.proofs.records.records.Goals.{Else-stale, Joined-body, in-Settings, in-Memory, in-Window, in-Read, in-Steps}
 
 -- a record was found, and its sequence number is not stale
 module _ (c : Else-stale) where
@@ -36,7 +35,7 @@ module _ (c : Else-stale) where
 
   fits : DataFits c.args.input.now
       c.args.at c.in-Found.record.body
-  fits = data-fits _ _ _ _ _ _ order.read-reading
+  fits = data-fits _ _ _ _ _ _ order.read
 
 joined : {e e' : Effect} {m m' w w' : List ℕ} {o : Engine} → e ≡ e' → m ≡ m' → w ≡ w' → after e (lend m w o) ≡ after e' (lend m' w' o)
 joined {e} {e'} {m} {m'} {w} {w'} {o} p q r = ap (λ (x : Effect). after x (lend m w o)) p ∙ ap₂ (λ (x y : List ℕ). after e' (lend x y o)) q r
@@ -50,12 +49,13 @@ unfolding apply_of
 applied c o =
     let a = c.args in
     let does : Body → After = apply_of a.session c.in-Found.record.sequence (a.base + a.at) a.input.now a.at (lend a.memory.now a.windows.now o) in
-    ⊎_elim (λ w. joined (w.6 ∙ w.3.ensures) w.4 w.5 ∙ sym (ap does w.1.given.1))
-    (⊎_elim (λ w. joined w.9 w.7 w.8 ∙ w.4.ensures a.windows.now o ∙ sym (ap does w.1.given.1))
-    (⊎_elim (λ w. joined w.9 w.7 w.8 ∙ w.4.ensures a.memory.now o ∙ sym (ap does w.1.given.1))
-    (⊎_elim (λ w. joined (w.6 ∙ w.3.ensures) w.4 w.5 ∙ sym (ap does w.1.given.1))
-    (λ w. joined (w.6 ∙ w.3.ensures) w.4 w.5 ∙ sym (ap does w.1.given.1)))))
-    c.match-body.branch
+    elim c.match-body.branch [
+      in-Settings w ↦ joined (w.effect-is ∙ w.settings-effect.ensures) w.memory-is w.windows-is ∙ sym (ap does w.in-Settings.is)
+    | in-Memory w ↦ joined w.effect-is w.memory-is w.windows-is ∙ w.memory-effect.ensures a.windows.now o ∙ sym (ap does w.in-Memory.is)
+    | in-Window w ↦ joined w.effect-is w.memory-is w.windows-is ∙ w.window-effect.ensures a.memory.now o ∙ sym (ap does w.in-Window.is)
+    | in-Read w ↦ joined (w.effect-is ∙ w.register_read-effect.ensures) w.memory-is w.windows-is ∙ sym (ap does w.in-Read.is)
+    | in-Steps w ↦ joined (w.effect-is ∙ w.steps-effect.ensures) w.memory-is w.windows-is ∙ sym (ap does w.in-Steps.is)
+    ]
 
 pub overflow_add-position : goal.overflow_add-position
 overflow_add-position c = omega (arith, c.requires.at_in_bounds.0, c.requires.at_in_bounds.1)
@@ -88,23 +88,26 @@ returns-then-stale c =
 pub overflow_add-at : goal.overflow_add-at
 overflow_add-at c =
     let a = c.args in
-    let here = subst (DataFits a.input.now a.at) c.in-Memory.is (fits c) in
+    let here = subst (DataFits a.input.now a.at) c.in-Memory.is (fits (goal.at.overflow_add-at c).Else-stale) in
     omega (arith, here, c.requires.at_in_bounds.1)
 
 pub memory-effect-requires : goal.memory-effect-requires
 memory-effect-requires c =
     let a = c.args in
-    subst (DataFits a.input.now a.at) c.in-Memory.is (fits c)
+    subst (DataFits a.input.now a.at) c.in-Memory.is (fits (goal.at.memory-effect-requires c).Else-stale)
 
 pub window-effect-requires : goal.window-effect-requires
 window-effect-requires c = c.requires.in_bounds
 
 pub writes-requires : goal.writes-requires
 writes-requires c =
-    let a = c.args in let both = (
-      subst (λ (b : Body). InOrder a.base a.input.now a.ended a.session a.at c.in-Found.record.sequence b c.in-Found.next) c.in-Write.is (order c),
-      (c.requires.at_in_bounds.1, (c.requires.tables, c.requires.put_in_bounds)),
-    ) in record { in_order = both.0; input_bound = both.1.0; tables = both.1.1.0; put_in_bounds = both.1.1.1 }
+    let a = c.args in 
+    record {
+      in_order = subst (λ (b : Body). InOrder a.base a.input.now a.ended a.session a.at c.in-Found.record.sequence b c.in-Found.next) c.in-Write.is (order (goal.at.writes-requires c).Else-stale);
+      input_bound = c.requires.at_in_bounds.1;
+      tables = c.requires.tables;
+      put_in_bounds = c.requires.put_in_bounds;
+    }
 
 pub shape_of-out-in-Write : goal.shape_of-out-in-Write
 shape_of-out-in-Write c =
@@ -124,16 +127,19 @@ pub returns-in-Astray : goal.returns-in-Astray
 unfolding apply_of
 returns-in-Astray c =
     let a = c.args in
-    λ o. takes-single (order c)
+    λ o. takes-single (order (goal.at.returns-in-Astray c).Else-stale)
     (sym (ap (apply_of a.session c.in-Found.record.sequence (a.base + a.at) a.input.now a.at (lend a.memory.now a.windows.now o)) c.in-Astray.is))
     c.requires.put_in_bounds c.refuse-in-Astray.ensures
 
 pub clocks-requires : goal.clocks-requires
 clocks-requires c =
-    let a = c.args in let both = (
-      subst (λ (b : Body). InOrder a.base a.input.now a.ended a.session a.at c.in-Found.record.sequence b c.in-Found.next) c.in-Clock.is (order c),
-      (c.requires.at_in_bounds.1, (c.requires.tables, c.requires.put_in_bounds)),
-    ) in record { in_order = both.0; input_bound = both.1.0; tables = both.1.1.0; put_in_bounds = both.1.1.1 }
+    let a = c.args in 
+    record {
+      in_order = subst (λ (b : Body). InOrder a.base a.input.now a.ended a.session a.at c.in-Found.record.sequence b c.in-Found.next) c.in-Clock.is (order (goal.at.clocks-requires c).Else-stale);
+      input_bound = c.requires.at_in_bounds.1;
+      tables = c.requires.tables;
+      put_in_bounds = c.requires.put_in_bounds;
+    }
 
 pub shape_of-out-in-Clock : goal.shape_of-out-in-Clock
 shape_of-out-in-Clock c =
@@ -164,4 +170,4 @@ shape_of-out c = puts-length c.tell.ensures.puts
 
 pub returns : goal.returns
 returns c =
-    λ o. takes-single (order c) (applied (goal.at.returns c).Joined-body o) c.requires.put_in_bounds c.tell.ensures
+    λ o. takes-single (order (goal.at.returns c).Else-stale) (applied (goal.at.returns c).Joined-body o) c.requires.put_in_bounds c.tell.ensures

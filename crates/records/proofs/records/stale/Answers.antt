@@ -4,6 +4,7 @@ use mathlib.Core.Bool.{true}
 use mathlib.Core.List.{[], ◌∷◌}
 use native.Mathlib.Omega.{arith}
 use types.Run.{OneOf}
+use borrow.Enum.Refused.{opened}
 use lib.Dec.{leb}
 use borrow.Author.Tests.{le-leb}
 use denote.Enum.Declared.{tag_of}
@@ -47,4 +48,4 @@ returns-in-Settings c =
 pub returns-in_default : goal.returns-in_default
 returns-in_default c =
     let a = c.args in
-    sym (ap₂ both (le-leb a.sequence a.before c.if-before-sequence.false) (other a.body c.in_default.in_default-own.keys2))
+    sym (ap₂ both (le-leb a.sequence a.before c.if-before-sequence.false) (other a.body (opened c.in_default.in_default-own.keys2)))

@@ -34,5 +34,5 @@ returns c =
     record {
       passed = refl;
       puts = as-text (no [] test refl) put;
-      short = omega (arith, put.past, line-most a.effect.line (omega (arith, c.well-formed.0.1)) (omega (arith, c.well-formed.0.1)) (omega (arith, c.well-formed.0.1)));
+      short = omega (arith, put.past, line-most a.effect.line (omega (arith, c.well_formed.0.1)) (omega (arith, c.well_formed.0.1)) (omega (arith, c.well_formed.0.1)));
     }

@@ -29,10 +29,17 @@ stretch-passed-requires c =
     let a = c.args in
     let pre = c.requires in
     let test = c.calls_other-calls.ensures in
-    let over = c.hand_over-handed.ensures in let both = (
-      (over-ready v.session v.other a.input.now v.at over test (length a.input.now - v.at) a.ended (sym c.ready.ensures ∙ c.if-not-ready.false), over-own v.session v.other a.input.now v.at over test),
-      ((p.within, pre.input_bound), (omega (arith, p.lengths.windows, pre.in_bounds), (pre.tables, omega (arith, c.loop-put-test.true, c.if-out-lt-LINE_ROOM.false, passing-room p)))),
-    ) in record { ended_value = both.0; at_in_bounds = both.1.0; in_bounds = both.1.1.0; tables = both.1.1.1.0; put_in_bounds = both.1.1.1.1 }
+    let over = c.hand_over-handed.ensures in
+    record {
+      ended_value = (
+        over-ready v.session v.other a.input.now v.at over test (length a.input.now - v.at) a.ended (sym c.ready.ensures ∙ c.if-not-ready.false),
+        over-own v.session v.other a.input.now v.at over test,
+      );
+      at_in_bounds = (p.within, pre.input_bound);
+      in_bounds = omega (arith, p.lengths.windows, pre.in_bounds);
+      tables = pre.tables;
+      put_in_bounds = omega (arith, c.loop-put-test.true, c.if-out-lt-LINE_ROOM.false, passing-room p);
+    }
 
 pub loop-put-smaller : goal.loop-put-smaller
 loop-put-smaller c =

@@ -28,14 +28,18 @@ pub records-requires : goal.records-requires
 records-requires c =
     let a = c.args in
     let pre = c.requires in
-    let mode = reads a.session.mode c.in_default.in_default-own.keys3 (length a.input.now - a.at) a.ended pre.ended_value.0 in let both = (
-      (
+    let mode = reads a.session.mode c.in_default.in_default-own.keys3 (length a.input.now - a.at) a.ended pre.ended_value.0 in
+    record {
+      mode_value = (
         mode,
         subst (λ (m : Mode). ready_of m (length a.input.now - a.at) a.ended ≡ true) mode pre.ended_value.0,
         subst (λ (m : Mode). calls_other m a.session.chosen a.input.now a.at ≡ false) mode pre.ended_value.1,
-      ),
-      pre.1,
-    ) in record { mode_value = both.0; at_in_bounds = both.1.0; in_bounds = both.1.1.0; tables = both.1.1.1.0; put_in_bounds = both.1.1.1.1 }
+      );
+      at_in_bounds = pre.at_in_bounds;
+      in_bounds = pre.in_bounds;
+      tables = pre.tables;
+      put_in_bounds = pre.put_in_bounds;
+    }
 
 pub returns-in-Start : goal.returns-in-Start
 returns-in-Start c =

@@ -1,5 +1,5 @@
 -- RULES.md's worked cases, one list under one claim. Each is computed through the definition that a contract cites:
--- `plan_of` (plan), `run_of` (run), `read_of` (read) and `busClockOf` (bus_clock).
+-- `plan_of` (plan), `run_of` (run), `read_of` (read) and `bus_clock_of` (bus_clock).
 use Rattle.std.specs.Prelude.{◌≡◌, List, [], ◌∷◌, ◌++◌, ℕ, ◌^◌, replicate}
 use Rattle.kit.specs.Word.{bytes_of}
 use Rattle.plan.specs.Plan.{Plan, plan_of}

@@ -72,7 +72,7 @@ pub record FaultPlaces : Type 0 where
   pub update-halts : (s : Engine) (o : Outcome) (m : List ℕ) (windows : List Window) (v : Verdict) → s.phase ≡ Update o
       → (location_of (length m) windows (status_place s) 4).verdict ≡ v → (v ≡ Okay → ⊥)
       → (advance_of s m windows).event ≡ Halt s.pointers.current (descriptor_bit v)
-  -- and a halt with one of these bits was such a descriptor's. So `locationOf`, over the same bytes, has its place and its window
+  -- and a halt with one of these bits was such a descriptor's. So `location_of`, over the same bytes, has its place and its window
   pub halted : (s : Engine) (m : List ℕ) (windows : List Window) (v : Verdict) (current : ℕ) → (v ≡ Okay → ⊥)
       → (advance_of s m windows).event ≡ Halt current (descriptor_bit v) → Halted s m windows v
 

@@ -3,4 +3,3 @@
 // specs/Joined.antt state what the events of a run are, and that runs one after the other are one. proofs/ proves it. No code
 // of its own.
 #![tactic(auto)]
-

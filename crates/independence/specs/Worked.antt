@@ -1,6 +1,6 @@
 -- Pairs of engines on one memory: two whose bytes do not meet, two that meet at a source, two that meet at a status word, two of
 -- which one only judges what the other writes; and the bytes of a step with a fixed side.
-use Rattle.std.specs.Prelude.{◌≡◌, true, false, List, [], ◌∷◌, ◌++◌, ℕ, zero, suc, length, get_or, replicate}
+use Rattle.std.specs.Prelude.{◌≡◌, true, false, List, [], ◌∷◌, ◌++◌, ℕ, zero, suc, get_or, replicate}
 use Rattle.kit.specs.Word.{word_at}
 use Rattle.memory.specs.declared.window.Window.{Window}
 use Rattle.state.specs.declared.engine.Engine.{Engine}

@@ -1,4 +1,5 @@
-// The functions of include/belikumba.h, for a host program in C: a caller keeps its engine and its monitor as numbers.
+// What each function of include/belikumba.h does, for a host program that keeps its engine and its monitor as numbers: the crate
+// interface_c exports them under these names.
 #![tactic(auto)]
 
 pub mod accesses;

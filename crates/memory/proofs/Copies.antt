@@ -1,10 +1,10 @@
 -- The copy of a burst: through bytes that are held in between, the part at `to` becomes what the part at `from` was.
 use mathlib.Core.Path.{◌≡◌, sym, ap, ◌∙◌}
-use mathlib.Core.List.{List, ◌++◌, append_assoc, append-nil}
+use mathlib.Core.List.{List, ◌++◌, append_assoc}
 use Prim.Native.Nat.{ℕ, ◌+◌, ◌-◌, ◌≤◌}
 use native.Mathlib.Omega.{arith}
-use lib.ListN.{length, take, drop, length-drop, drop_of_length-le}
-use lib.Seq.{sets-eq, take_at, drop-drop, take-length, length-take-le}
+use lib.ListN.{length, take, drop, length-drop}
+use lib.Seq.{sets-eq, take_at, drop-drop, length-take-le}
 use borrow.Rule.Slice.PartMut.{put_mid}
 use Rattle.memory.specs.Burst.{copied}
 

@@ -1,4 +1,4 @@
--- Laws of `goodBytes`: every part of the good bytes answers OKAY, and the byte after them does not.
+-- Laws of `good_bytes`: every part of the good bytes answers OKAY, and the byte after them does not.
 use mathlib.Core.Path.{◌≡◌, refl, sym, ap, ◌∙◌}
 use mathlib.Core.Bool.{Bool, true, false}
 use mathlib.Core.List.{List, [], ◌∷◌}

@@ -1,4 +1,4 @@
--- Laws of `holderOf`: the window that it numbers, and the windows of a flat slice as a loop goes over them by two.
+-- Laws of `holder_of`: the window that it numbers, and the windows of a flat slice as a loop goes over them by two.
 use mathlib.Core.Path.{◌≡◌, refl, sym, ap, ◌∙◌}
 use mathlib.Core.Bool.{true, false}
 use mathlib.Core.List.{List, [], ◌∷◌}

@@ -1,4 +1,4 @@
--- Laws of `lowestOf`: what it finds is the lowest place, and there is one lowest place only.
+-- Laws of `lowest_of`: what it finds is the lowest place, and there is one lowest place only.
 use mathlib.Core.Path.{◌≡◌, refl, sym, ap, ap₂, subst, ◌∙◌}
 use mathlib.Core.Bool.{Bool, true, false}
 use mathlib.Core.List.{List}

@@ -39,7 +39,7 @@ pub record Claims : Type 0 where
   pub plan : (w l start count : ℕ) (places : List ℕ)
       → let p = plan_of w l start count places in
       p.answer ≡ 0 → WellPlanned w l start count (2 * p.bursts) (bursts_in p.bursts p.places) places p.places
-  -- the same over bytes: the contract of `belikumba_plan`, which C calls, says that its result is `planBytesOf`
+  -- the same over bytes: the contract of `belikumba_plan`, which C calls, says that its result is `plan_bytes_of`
   pub plan-bytes : (w l start count : ℕ) (places : List ℕ)
       → let p = plan_bytes_of w l start count places in
       p.answer ≡ 0 → WellPlanned w l start count (8 * p.bursts) (bursts_in_bytes p.bursts p.places) places p.places

@@ -1,4 +1,4 @@
--- What follows by `followsOf` is a record that reading finds.
+-- What follows by `follows_of` is a record that reading finds.
 use mathlib.Core.Path.{◌≡◌, refl, sym, ap, ◌∙◌}
 use mathlib.Core.Bool.{Bool, true, false}
 use mathlib.Core.List.{List}

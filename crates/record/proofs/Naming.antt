@@ -11,7 +11,7 @@ use lib.Seq.{get_or-drop}
 use borrow.Author.Tests.{le-leb, lt-leb, eq-eqb, ne_eqb, eqb-true}
 use Rattle.kit.specs.Choice.{when, both, either}
 use Rattle.kit.specs.Word.{half_at}
-use Rattle.kit.proofs.Choice.{yes, no, cases, both_left, both_right, both-join, never}
+use Rattle.kit.proofs.Choice.{yes, no, cases, both_left, both_right, never}
 use Rattle.record.specs.declared.reading.Body.{Body}
 use Rattle.record.specs.declared.reading.Body.TheVariants.{Astray}
 use Rattle.record.specs.declared.reading.Record.{Record}

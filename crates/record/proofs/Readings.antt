@@ -1,4 +1,4 @@
--- Laws of `readingAs` and `reading_of`: a result is the reading once it is known what was allowed and whole.
+-- Laws of `reading_as` and `reading_of`: a result is the reading once it is known what was allowed and whole.
 use mathlib.Core.Path.{◌≡◌, refl, sym, subst}
 use mathlib.Core.Bool.{Bool, true, false}
 use mathlib.Core.List.{List}

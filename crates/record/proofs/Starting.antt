@@ -10,8 +10,7 @@ use lib.Seq.{get_or-drop}
 use borrow.Author.Tests.{le-leb, lt-leb}
 use Rattle.kit.specs.Choice.{when, both}
 use Rattle.kit.specs.Word.{half_at}
-use Rattle.kit.proofs.Choice.{yes, no, decide, both-join}
-use mathlib.Core.Logic.{⊎_elim}
+use Rattle.kit.proofs.Choice.{yes, no, both-join}
 use Rattle.record.specs.Mark.{kind_of}
 use Rattle.record.specs.Reading.{reading_of}
 use Rattle.record.specs.Starts.{settings_mark, settings_at, older_settings, converted_of, Starts}

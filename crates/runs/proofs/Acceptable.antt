@@ -2,7 +2,6 @@
 use mathlib.Core.Path.{◌≡◌, refl, sym, subst}
 use Prim.Native.Nat.{ℕ, ◌≤◌}
 use mathlib.Core.Bool.{Bool, true, false}
-use mathlib.Core.List.{List}
 use native.Mathlib.Omega.{arith}
 use lib.ListN.{length}
 use lib.Dec.{ltb}
@@ -14,7 +13,6 @@ use Rattle.kit.proofs.Choice.{yes, no}
 use Rattle.kit.specs.declared.settings.Settings.{Settings}
 use Rattle.state.specs.State.{well_formed_of}
 use Rattle.runs.specs.Run.{refusal_of}
-use Rattle.steps.specs.Claims.{Bytes}
 use Rattle.runs.specs.Claims.{Acceptable, AcceptableUnrefused, UnrefusedAcceptable, AdvanceAcceptable}
 use Rattle.steps.proofs.Keeps.{advance-keeps, advance-well-formed}
 

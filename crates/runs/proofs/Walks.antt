@@ -1,4 +1,4 @@
--- Laws of `walkFrom`: it stops at its budget and where the engine is idle, else it takes a step, or several, and goes on.
+-- Laws of `walk_from`: it stops at its budget and where the engine is idle, else it takes a step, or several, and goes on.
 use mathlib.Core.Path.{◌≡◌, refl, sym, ap, ap₂, subst, ◌∙◌}
 use Prim.Native.Nat.{ℕ, zero, suc, ◌+◌, ◌-◌, ◌≤◌, ◌<◌}
 use mathlib.Core.Bool.{Bool, true, false}

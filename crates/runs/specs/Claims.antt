@@ -34,7 +34,7 @@ abbrev pub AdvanceAcceptable : Type 0
 AdvanceAcceptable = (s : Engine) (m : List ℕ) (windows : List Window) (n : ℕ) → Acceptable s m n
     → Acceptable (advance_of s m windows).engine (advance_of s m windows).memory n
 
--- and a step that is not refused is `advanceOf`
+-- and a step that is not refused is `advance_of`
 abbrev pub StepAdvances : Type 0
 StepAdvances = (s : Engine) (m windows : List ℕ) → Acceptable s m (length windows / 2) → step_of s m windows ≡ step_answer 0 (advance_of s m (windows_of windows))
 

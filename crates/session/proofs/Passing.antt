@@ -22,7 +22,6 @@ use Rattle.session.specs.declared.Mode.{Mode}
 use Rattle.session.specs.declared.Mode.TheVariants as modes
 use Rattle.session.specs.declared.Session.{Session}
 use Rattle.session.specs.declared.Passed.{Passed}
-use Rattle.session.specs.declared.AfterPass.{AfterPass}
 use Rattle.session.specs.Chosen.{called_of}
 use Rattle.session.specs.Effect.{Lent, lend, text_of, with_mode, opening_of}
 use Rattle.session.specs.Stepping.{step_line_of}

@@ -30,7 +30,7 @@ most_steps = 65535
 abbrev pub line_as : ℕ → Word → ℕ → ℕ → Line
 line_as sequence word first second = record { sequence = sequence; word = word; first = first; second = second }
 
--- the words of events, by the numbers of steps' `reportOf`
+-- the words of events, by the numbers of steps' `report_of`
 abbrev pub event_words : List Word
 event_words = words.Stop ∷ words.Fetch ∷ words.Move ∷ words.Fault ∷ words.Update ∷ words.Halt ∷ []
 

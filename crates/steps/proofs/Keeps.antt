@@ -32,7 +32,7 @@ use Rattle.state.specs.State.{busy_of, error_set_of, phase_fits, with_status, wi
 use Rattle.state.proofs.Start as start
 use Rattle.state.proofs.WellFormed.{transfer-fits, transfer-fits-test, WellFormed, well-formed, well-formed-test}
 use Rattle.steps.specs.Step.{AfterAdvance, stop_on_error_of, phase_after_fetch_of, finish_transfer_of, read_place, write_place, next_bytes, status_place, status_word_of, complete_descriptor_of, retire_of, advance_of}
-use Rattle.steps.specs.Claims.{Bytes, Lasts, Keeps, AdvanceKeeps, AdvanceWellFormed}
+use Rattle.steps.specs.Claims.{Bytes, Lasts, AdvanceKeeps, AdvanceWellFormed}
 use Rattle.steps.proofs.Advances.{Advance, rests, halts, fetches, moves, faults, updates, descriptor, advances}
 use Rattle.steps.proofs.Bursts.{burst-fits, answer-low}
 use Rattle.steps.proofs.Stored.{word_fits, sets-bytes, moved-bytes, word_bytes}

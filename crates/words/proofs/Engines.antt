@@ -2,7 +2,7 @@
 use mathlib.Core.Path.{◌≡◌, refl, sym, ap, ◌∙◌}
 use Prim.Native.Nat.{ℕ}
 use mathlib.Core.Bool.{Bool, true, false}
-use mathlib.Core.List.{List, [], ◌∷◌}
+use mathlib.Core.List.{List}
 use mathlib.Core.Logic.{◌⊎◌, inl, inr}
 use lib.Dec.{eqb}
 use Rattle.kit.specs.Choice.{when}
@@ -13,7 +13,7 @@ use Rattle.state.specs.declared.engine.ErrorBit.TheVariants.{Clear, DmaIntErr, D
 use Rattle.state.specs.declared.engine.Outcome.TheVariants.{Complete, Internal, Slave, Decode}
 use Rattle.state.specs.declared.engine.Phase.{Phase}
 use Rattle.state.specs.declared.engine.Phase.TheVariants.{Idle, Fetch, Move, Update}
-use Rattle.state.specs.State.{fresh_of, well_formed_of}
+use Rattle.state.specs.State.{well_formed_of}
 use Rattle.state.specs.Bits.{error_bit_of}
 use Rattle.words.specs.EngineWords.{truth, phase_number_of, moving_of, words_of, stepped_words_of, error_bit_from, phase_from, settings_from, engine_from, same_words, ill_formed_of, engine_of}
 use Rattle.words.proofs.Same.{same-equal, same-itself}

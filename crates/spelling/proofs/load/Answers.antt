@@ -1,5 +1,4 @@
 use mathlib.Core.Path.{sym, ap, ◌∙◌}
-use borrow.Author.Tests.{not-true, not-false}
 use Rattle.state.specs.declared.engine.Transfer.{Transfer}
 use Rattle.words.specs.EngineWords.{word, phase_from, ill_formed_of}
 use Rattle.spelling.proofs.Engines.{spelled-engine, not-spelled}

@@ -1,7 +1,6 @@
 use mathlib.Core.Path.{◌≡◌, refl}
-use borrow.Author.Tests.{not-true, not-false}
 use Rattle.kit.proofs.Choice.{yes, no}
-use Rattle.monitor.specs.Flags.{waiting, held_flags, held_table, raise}
+use Rattle.monitor.specs.Flags.{held_flags, held_table, raise}
 use Rattle.monitor.proofs.Raise.{line, joined}
 use Rattle.monitor.proofs.flags.held_flags.Goals as goal
 use Rattle.monitor.proofs.flags.held_flags.Goals.{After-choose-raised-10}

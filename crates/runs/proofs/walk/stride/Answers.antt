@@ -13,4 +13,4 @@ pub returns : goal.returns
 returns c =
     let start = c in
     let here = reaches-none (omega (arith, c.if-ahead-gt0.false)) c.bursts_ahead-ahead.ensures.reaches in
- record { reaches = reaches-one start.requires.phase_value (ap (λ (x : AfterAdvance). x.memory) here) c.advance-advanced.ensures; steps_nonzero = (omega arith, omega (arith, start.requires.most_nonzero)) }
+    record { reaches = reaches-one start.requires.phase_value (ap (λ (x : AfterAdvance). x.memory) here) c.advance-advanced.ensures; steps_nonzero = (omega arith, omega (arith, start.requires.most_nonzero)) }

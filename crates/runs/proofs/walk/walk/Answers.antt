@@ -1,7 +1,5 @@
 use mathlib.Core.Path.{◌≡◌, refl, sym, ap₂, ◌∙◌}
-use mathlib.Core.Logic.{⊎_elim}
 use native.Mathlib.Omega.{arith}
-use borrow.Author.Tests.{not-true}
 use Rattle.kit.specs.declared.settings.Settings.{Settings}
 use Rattle.memory.specs.Windows.{windows_of}
 use Rattle.state.specs.declared.engine.Engine.{Engine}
@@ -53,6 +51,6 @@ pub returns : goal.returns
 returns c =
     let v = c.loop-steps in
     elim c.loop-steps-test.branch [
-      else-loop-steps-test w ↦ walking-done v.invariant.1 w.loop-steps-test.false
-    | then-loop-steps-test+then-not-busy w ↦ walking-idle v.invariant.1 (sym w.busy.ensures ∙ w.if-not-busy.true)
+      | else-loop-steps-test w ↦ walking-done v.invariant.1 w.loop-steps-test.false
+      | then-loop-steps-test+then-not-busy w ↦ walking-idle v.invariant.1 (sym w.busy.ensures ∙ w.if-not-busy.true)
     ]

@@ -1,5 +1,4 @@
 use mathlib.Core.Path.{refl, ap}
-use borrow.Author.Tests.{not-true, not-false}
 use Rattle.kit.proofs.Choice.{yes, no}
 use Rattle.session.specs.Chosen.{with_settings}
 use Rattle.session.specs.Effect.{with_engine, with_chosen}

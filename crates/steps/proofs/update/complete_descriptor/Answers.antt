@@ -8,6 +8,6 @@ use Rattle.steps.proofs.update.complete_descriptor.Goals.{then-engine, else-engi
 pub returns : goal.returns
 returns c =
     elim c.if-engine.branch [
-      then-engine w ↦ no _ (ne_eqb _ _ w.if-engine.true) (ap₂ with_phase w.engine-is w.phase-is)
-    | else-engine w ↦ yes _ (eq-eqb _ _ w.if-engine.false) (ap₂ with_phase w.engine-is w.phase-is)
+      | then-engine w ↦ no _ (ne_eqb _ _ w.if-engine.true) (ap₂ with_phase w.engine-is w.phase-is)
+      | else-engine w ↦ yes _ (eq-eqb _ _ w.if-engine.false) (ap₂ with_phase w.engine-is w.phase-is)
     ]

@@ -1,12 +1,10 @@
 -- The refusal of a step or a run over the words, test by test, and what holds where there is none.
 use mathlib.Core.Path.{◌≡◌, refl, sym, ap, subst, ◌∙◌}
-use Prim.Native.Nat.{ℕ, ◌/◌, ◌≤◌, ◌<◌}
+use Prim.Native.Nat.{ℕ, ◌≤◌, ◌<◌}
 use mathlib.Core.Bool.{true, false}
 use mathlib.Core.List.{List}
 use lib.ListN.{length}
-use lib.Dec.{ltb}
 use borrow.Author.Tests.{lt-ltb, le-ltb}
-use Rattle.kit.specs.Choice.{when}
 use Rattle.kit.specs.Limits.{most_memory, most_windows}
 use Rattle.kit.specs.Settings.{legal_of}
 use Rattle.kit.specs.declared.settings.Settings.{Settings}

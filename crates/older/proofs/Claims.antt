@@ -1,10 +1,10 @@
 -- The claims of specs/Older.antt.
-use mathlib.Core.Path.{◌≡◌, refl, sym, ap, ap₂, ◌∙◌}
+use mathlib.Core.Path.{◌≡◌, refl, sym, ap, ◌∙◌}
 use Prim.Native.Nat.{ℕ, suc, ◌+◌, ◌-◌, ◌*◌, ◌≤◌, ◌<◌}
 use mathlib.Core.Bool.{Bool, true, false}
 use mathlib.Core.List.{List, [], ◌∷◌, ◌++◌, map, append-nil}
 use native.Mathlib.Omega.{arith}
-use lib.Dec.{eqb, leb, ltb}
+use lib.Dec.{eqb, leb}
 use lib.ListN.{length, length-append}
 use borrow.Author.Tests.{lt-ltb, le-leb, leb-true, eqb-true}
 use Rattle.kit.specs.Choice.{when, both}
@@ -18,7 +18,7 @@ use Rattle.listing.specs.Line.{header_of}
 use Rattle.record.specs.declared.reading.Body.TheVariants.{Settings}
 use Rattle.record.specs.declared.reading.Reading.{Reading}
 use Rattle.record.specs.declared.reading.Reading.TheVariants.{Found, Refused}
-use Rattle.record.specs.Mark.{Kind, CF, letters, kind_of}
+use Rattle.record.specs.Mark.{CF, letters, kind_of}
 use Rattle.record.specs.Reading.{found_of, body_of, reading_as, reading_of}
 use Rattle.record.specs.Starts.{settings_mark, settings_at, starts_with, starts_one, starts_two, older_settings, converted_of}
 use Rattle.record.proofs.Starting.{starts}
@@ -28,11 +28,11 @@ use Rattle.session.specs.declared.Mode.TheVariants.{Records, Over}
 use Rattle.session.specs.declared.Session.{Session}
 use Rattle.session.specs.Effect.{start_with, start_of, with_engine, with_chosen, with_mode, settings_line_of, bad_line_of, bad_of, after, lend, Lent}
 use Rattle.session.specs.Turn.{Turn, turn_as, apply_of, record_by, record_turn_of}
-use Rattle.session.specs.Pass.{ready_in, Replay, replay_as, turn_on}
+use Rattle.session.specs.Pass.{replay_as, turn_on}
 use Rattle.session.proofs.Turns.{both-no}
-use Rattle.whole.specs.Listing.{start_memory, start_windows, most_turns, at_start, list_from, listing_of}
+use Rattle.whole.specs.Listing.{start_memory, start_windows, most_turns, at_start, listing_of}
 use Rattle.whole.proofs.Parts.{seen_in}
-use Rattle.older.specs.Lines.{texts_of, opening_lines, record_lines, turn_lines, cleared, lines_from, lines_of}
+use Rattle.older.specs.Lines.{texts_of, opening_lines, record_lines, lines_from, lines_of}
 use Rattle.older.specs.Older.{silent, records_of, carries_zero, older_lines_of, grown, Older}
 use Rattle.older.proofs.Lines.{lines-turn, lines-stop, list-lines, lines-enough, whole, lines-later}
 use Rattle.older.proofs.Grown.{lines-grown}

@@ -6,7 +6,7 @@ use mathlib.Core.Bool.{Bool, true, false}
 use mathlib.Core.List.{List, [], ◌∷◌, ◌++◌, map, map-append}
 use native.Mathlib.Omega.{arith}
 use lib.Dec.{eqb, leb, ltb}
-use lib.ListN.{length, get_or, take, drop}
+use lib.ListN.{length, get_or, take}
 use borrow.Author.Tests.{leb-false, ne_eqb}
 use Rattle.kit.specs.Choice.{when, both}
 use Rattle.kit.specs.Limits.{most_windows}
@@ -39,7 +39,7 @@ use Rattle.session.specs.Stepping.{used_of, event_words, stops_of, accepted_of, 
 use Rattle.session.specs.Turn.{Turn, turn_as, apply_of, stale_of, record_by, record_turn_of}
 use Rattle.session.specs.Chosen.{two_of, called_of}
 use Rattle.session.specs.Pass.{ready_in, Replay, swapped, next_on, turn_by, turn_on}
-use Rattle.older.specs.Lines.{opening_lines, record_lines, next_lines, turn_lines, cleared, lines_from}
+use Rattle.older.specs.Lines.{record_lines, next_lines, turn_lines, cleared, lines_from}
 use Rattle.older.specs.Older.{is_bad, grown}
 use Rattle.older.proofs.Lines.{lines-turn, lines-stop}
 

@@ -1,7 +1,7 @@
 -- Laws of the lines: they are the listing's text, a part's are the whole's, and as many turns as the measure says are enough.
 use mathlib.Core.Path.{◌≡◌, refl, sym, ap, ap₂, subst, ◌∙◌}
 use mathlib.Core.Logic.{⊎_elim}
-use Prim.Native.Nat.{ℕ, zero, suc, ◌+◌, ◌-◌, ◌≤◌, ◌<◌}
+use Prim.Native.Nat.{ℕ, zero, suc, ◌+◌, ◌-◌, ◌≤◌}
 use mathlib.Core.Bool.{Bool, true, false}
 use mathlib.Core.List.{List, [], ◌∷◌, ◌++◌, append_assoc, append-nil}
 use native.Mathlib.Omega.{arith}
@@ -13,9 +13,8 @@ use Rattle.listing.specs.Line.{line_of}
 use Rattle.record.specs.Starts.{settings_at}
 use Rattle.session.specs.declared.Mode.{Mode}
 use Rattle.session.specs.declared.Mode.TheVariants as modes
-use Rattle.session.specs.declared.Session.{Session}
 use Rattle.session.specs.Chosen.{called_of}
-use Rattle.session.specs.Effect.{Lent, under_way, text_of, opening_of}
+use Rattle.session.specs.Effect.{under_way, opening_of}
 use Rattle.session.specs.Stepping.{step_line_of}
 use Rattle.session.specs.Turn.{Turn, record_turn_of}
 use Rattle.session.specs.Pass.{ready_of, ready_in, Replay, swapped, next_on, turn_by, turn_on, turns_of}

@@ -11,7 +11,7 @@ use lib.Seq.{length-take-le, take-append_seam}
 use lib.Dec.{leb, ltb}
 use borrow.Author.Tests.{ltb-true, ltb-false, lt-ltb, leb-true}
 use Rattle.kit.specs.Choice.{when}
-use Rattle.kit.proofs.Choice.{decide, never, both_right}
+use Rattle.kit.proofs.Choice.{decide, both_right}
 use Rattle.listing.specs.Line.{header_of}
 use Rattle.record.specs.Claims.{longest}
 use Rattle.session.specs.declared.Mode.{Mode}

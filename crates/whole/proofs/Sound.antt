@@ -1,23 +1,22 @@
 -- Every session of a replay is sound.
-use mathlib.Core.Path.{◌≡◌, refl, sym, ap, ap₂, subst, ◌∙◌}
-use Prim.Native.Nat.{ℕ, zero, suc, ◌+◌, ◌-◌, ◌*◌, ◌/◌, ◌^◌, ◌≤◌, ◌<◌, min}
-use mathlib.Core.Bool.{Bool, true, false}
+use mathlib.Core.Path.{◌≡◌, refl, sym, ap, subst, ◌∙◌}
+use Prim.Native.Nat.{ℕ, zero, suc, ◌+◌, ◌-◌, ◌*◌, ◌≤◌, min}
+use mathlib.Core.Bool.{Bool}
 use mathlib.Core.List.{List, [], ◌++◌}
 use native.Mathlib.Omega.{arith}
-use lib.ListN.{length, take, drop, set, length-set, length-append, length-replicate}
-use lib.Seq.{sets, length-sets, length-take-le, take-append_seam}
+use lib.ListN.{length, take, drop, set, length-set, length-replicate}
+use lib.Seq.{length-sets, take-append_seam}
 use lib.Dec.{eqb, leb, ltb}
 use borrow.Author.Tests.{eq-eqb, leb-false, le-ltb}
-use Rattle.kit.specs.Choice.{when, both}
-use Rattle.kit.specs.Limits.{most_memory, most_windows, address_end}
+use Rattle.kit.specs.Choice.{both}
+use Rattle.kit.specs.Limits.{most_memory, most_windows}
 use Rattle.kit.specs.Settings.{legal_width, legal_beats, legal_of, legal_settings}
-use Rattle.kit.proofs.Choice.{yes, no, cases, never}
+use Rattle.kit.proofs.Choice.{yes, no, cases}
 use Rattle.memory.specs.declared.window.Window.{Window as Window'}
 use Rattle.memory.specs.Windows.{windows_of}
 use Rattle.state.specs.declared.engine.Engine.{Engine}
-use Rattle.state.specs.State.{fresh_of, well_formed_of}
+use Rattle.state.specs.State.{well_formed_of}
 use Rattle.state.proofs.WellFormed.{fresh-well-formed}
-use Rattle.registers.specs.Write as registers-written
 use Rattle.registers.proofs.Writes.{write-keeps-settings, write-keeps-words, write-keeps-well-formed}
 use Rattle.steps.specs.Step.{advance_of}
 use Rattle.runs.specs.Run.{refusal_of}

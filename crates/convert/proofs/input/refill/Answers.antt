@@ -14,7 +14,7 @@ returns-in-Err c =
     let end = front + c.args.state.waiting in
     record {
       answer = negsuc 0;
-      interrupted = c.eq-again.result;
+      interrupted = c.interrupted-again.result;
       moved = refl;
       is = c.after_read-in-Err.ensures;
       kept = take_put end (length c.args.buffer.now - end) c.args.buffer.now c.read.new.buf (omega (arith, fits.within, fits.size));

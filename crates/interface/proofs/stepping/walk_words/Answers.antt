@@ -7,7 +7,7 @@ use Rattle.state.specs.declared.engine.Engine.{Engine}
 use Rattle.state.specs.State.{well_formed_of}
 use Rattle.steps.specs.Step.{begun}
 use Rattle.runs.specs.Run.{refusal_of, walk_from}
-use Rattle.words.specs.EngineWords.{engine_from, engine_of}
+use Rattle.words.specs.EngineWords.{engine_of}
 use Rattle.interface.proofs.CallResults.{walk_refused, walk-taken}
 use Rattle.interface.proofs.Judges.{Accepted, accepted, stored-steps}
 use Rattle.interface.proofs.stepping.walk_words.Goals as goal

@@ -1,6 +1,6 @@
 use mathlib.Core.Path.{refl, ap}
 use mathlib.Core.Bool.{true, false, not}
-use borrow.Author.Tests.{eq-eqb, ne_eqb, le-leb, lt-leb, not-true, not-false}
+use borrow.Author.Tests.{eq-eqb, ne_eqb, le-leb, lt-leb}
 use Rattle.kit.proofs.Choice.{yes, no}
 use Rattle.state.specs.State.{busy_of}
 use Rattle.lines.proofs.stepping.stops.Goals as goal

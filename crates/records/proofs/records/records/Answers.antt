@@ -50,11 +50,11 @@ applied c o =
     let a = c.args in
     let does : Body → After = apply_of a.session c.in-Found.record.sequence (a.base + a.at) a.input.now a.at (lend a.memory.now a.windows.now o) in
     elim c.match-body.branch [
-      in-Settings w ↦ joined (w.effect-is ∙ w.settings-effect.ensures) w.memory-is w.windows-is ∙ sym (ap does w.in-Settings.is)
-    | in-Memory w ↦ joined w.effect-is w.memory-is w.windows-is ∙ w.memory-effect.ensures a.windows.now o ∙ sym (ap does w.in-Memory.is)
-    | in-Window w ↦ joined w.effect-is w.memory-is w.windows-is ∙ w.window-effect.ensures a.memory.now o ∙ sym (ap does w.in-Window.is)
-    | in-Read w ↦ joined (w.effect-is ∙ w.register_read-effect.ensures) w.memory-is w.windows-is ∙ sym (ap does w.in-Read.is)
-    | in-Steps w ↦ joined (w.effect-is ∙ w.steps-effect.ensures) w.memory-is w.windows-is ∙ sym (ap does w.in-Steps.is)
+      | in-Settings w ↦ joined (w.effect-is ∙ w.settings-effect.ensures) w.memory-is w.windows-is ∙ sym (ap does w.in-Settings.is)
+      | in-Memory w ↦ joined w.effect-is w.memory-is w.windows-is ∙ w.memory-effect.ensures a.windows.now o ∙ sym (ap does w.in-Memory.is)
+      | in-Window w ↦ joined w.effect-is w.memory-is w.windows-is ∙ w.window-effect.ensures a.memory.now o ∙ sym (ap does w.in-Window.is)
+      | in-Read w ↦ joined (w.effect-is ∙ w.register_read-effect.ensures) w.memory-is w.windows-is ∙ sym (ap does w.in-Read.is)
+      | in-Steps w ↦ joined (w.effect-is ∙ w.steps-effect.ensures) w.memory-is w.windows-is ∙ sym (ap does w.in-Steps.is)
     ]
 
 pub overflow_add-position : goal.overflow_add-position
@@ -101,7 +101,7 @@ window-effect-requires c = c.requires.in_bounds
 
 pub writes-requires : goal.writes-requires
 writes-requires c =
-    let a = c.args in 
+    let a = c.args in
     record {
       in_order = subst (λ (b : Body). InOrder a.base a.input.now a.ended a.session a.at c.in-Found.record.sequence b c.in-Found.next) c.in-Write.is (order (goal.at.writes-requires c).Else-stale);
       input_bound = c.requires.at_in_bounds.1;
@@ -133,7 +133,7 @@ returns-in-Astray c =
 
 pub clocks-requires : goal.clocks-requires
 clocks-requires c =
-    let a = c.args in 
+    let a = c.args in
     record {
       in_order = subst (λ (b : Body). InOrder a.base a.input.now a.ended a.session a.at c.in-Found.record.sequence b c.in-Found.next) c.in-Clock.is (order (goal.at.clocks-requires c).Else-stale);
       input_bound = c.requires.at_in_bounds.1;

@@ -1,10 +1,7 @@
-use mathlib.Core.Path.{refl}
-use borrow.Author.Tests.{lt-ltb, le-ltb}
-use Rattle.kit.proofs.Choice.{yes, no}
+use borrow.Author.Tests.{le-ltb}
+use native.Mathlib.Omega.{arith}
+use Rattle.kit.proofs.Choice.{no}
 use Rattle.watch.proofs.judged.Goals as goal
 
-pub returns-then-bits-gt7 : goal.returns-then-bits-gt7
-returns-then-bits-gt7 c = yes _ (lt-ltb _ _ c.if-bits-gt7.true) refl
-
 pub returns : goal.returns
-returns c = no _ (le-ltb _ _ c.if-bits-gt7.false) c.bus_clock.ensures
+returns c = no _ (le-ltb 7 c.args.bits (omega arith)) c.bus_clock.ensures

@@ -40,8 +40,7 @@ returns-in-Okay c s p =
     let a = start.args in
     let e = c.burst_bytes-bytes.ensures in
     let f = transfer-fits a.transfer start.requires.transfer_value in
-    let left = c.if-bytes-left.false in
     let some = (bytes_fit a.settings false a.transfer start.requires.settings_value start.requires.transfer_value).some in
     step-moves-on p a.memory.now (windows_of a.windows.now) e (omega (arith, e, some))
     (sym c.in-Okay.is ∙ c.judge_pair-verdict.ensures)
-    (λ z. left (omega (arith, z, f.moved-less))) c.copy.ensures
+    (λ z. omega (arith, z, f.moved-less)) c.copy.ensures

@@ -14,8 +14,7 @@ use Rattle.state.specs.declared.engine.Outcome.{Outcome}
 use Rattle.state.specs.declared.engine.Outcome.TheVariants.{Internal}
 use Rattle.state.specs.declared.engine.Phase.{Phase}
 use Rattle.state.specs.declared.engine.Phase.TheVariants.{Fetch, Move, Update}
-use Rattle.state.specs.declared.descriptor.Start.{Start as Begun}
-use Rattle.state.specs.declared.descriptor.Start.TheVariants.{Moves, Internal as InternalError}
+use Rattle.std.specs.Prelude.{Option, Some, None}
 use Rattle.state.specs.Claims.{Suited}
 use Rattle.state.specs.Descriptor.{descriptor_at, start_of}
 use Rattle.state.specs.State.{phase_fits, well_formed_of}
@@ -84,10 +83,10 @@ module _ (s : Engine) (t : Transfer) where
       → begins.Started s.settings.width s.control source destination total t
   says source destination total e = go (start_of s.settings.width s.control source destination total) refl e
     where
-      go : (x : Begun) → start_of s.settings.width s.control source destination total ≡ x → phase_after_fetch_of x ≡ Move t
+      go : (x : Option Transfer) → start_of s.settings.width s.control source destination total ≡ x → phase_after_fetch_of x ≡ Move t
           → begins.Started s.settings.width s.control source destination total t
-      go (Moves u) f g = begins.started s.settings.width s.control source destination total t (f ∙ cc g)
-      go InternalError f g = absurd (let z : ◌≡◌ {A = ℕ} 0 1 = cc g in omega arith)
+      go (Some u) f g = begins.started s.settings.width s.control source destination total t (f ∙ cc g)
+      go None f g = absurd (let z : ◌≡◌ {A = ℕ} 0 1 = cc g in omega arith)
 
   -- the first act of a transfer: it is a step exactly in chain mode, moves nothing and leaves the memory
   pub record Started (first : Act) : Type 0 where
@@ -148,9 +147,9 @@ module _ (s : Engine) (o : Outcome) (well : well_formed_of s ≡ true) (out : in
   outside : {p : Phase} → p ≡ Update o → in_transfer p ≡ false → ⊥
   outside e x = never (sym x ∙ ap in_transfer e)
 
-  unmoved : (x : Begun) → phase_after_fetch_of x ≡ Update o → Internal ≡ o
-  unmoved (Moves u) e = absurd (let z : ◌≡◌ {A = ℕ} 0 1 = cc e in omega arith)
-  unmoved InternalError e = cc e
+  unmoved : (x : Option Transfer) → phase_after_fetch_of x ≡ Update o → Internal ≡ o
+  unmoved (Some u) e = absurd (let z : ◌≡◌ {A = ℕ} 0 1 = cc e in omega arith)
+  unmoved None e = cc e
 
   -- an update without a move is of a transfer that did not start, in chain mode
   pub record Barren (first : Act) : Type 0 where

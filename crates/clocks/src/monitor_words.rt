@@ -1,6 +1,6 @@
 // include/belikumba.h, "Monitor": a monitor as the 14 numbers that its caller keeps, and a clock as C hands it over.
 ghost use Rattle.std.specs.Prelude.{◌≡◌, ◌≤◌};
-ghost use Rattle.clocks.specs.MonitorWords.{bit_if, bits_of, low_of, high_of, flags_from, clock_from, fields_from, monitor_from, monitor_words_of};
+ghost use Rattle.clocks.specs.MonitorWords.{bits_of, low_of, high_of, flags_from, clock_from, fields_from, monitor_from, monitor_words_of};
 
 use monitor::clock::Clock;
 use monitor::monitor::Monitor;
@@ -41,34 +41,28 @@ pub fn clock(fields: ClockForC) -> Clock
     }
 }
 
-fn bit_if(set: bool, bit: u32) -> u32
-    ensures { (result ≡ bit_if set bit) × (result ≤ bit) }
-{
-    if set { bit } else { 0 }
-}
-
 fn bits(clock: Clock) -> u32
     ensures { result ≡ bits_of clock }
 {
-    bit_if(clock.aresetn, 1) + bit_if(clock.valid, 2) + bit_if(clock.ready, 4)
+    u32::from(clock.aresetn) + 2 * u32::from(clock.valid) + 4 * u32::from(clock.ready)
 }
 
 fn low(flags: u64) -> u32
     ensures { result ≡ low_of flags }
 {
-    (flags % 4294967296) as u32
+    (flags & 0xffffffff) as u32
 }
 
 fn high(flags: u64) -> u32
     ensures { result ≡ high_of flags }
 {
-    (flags / 4294967296) as u32
+    (flags >> 32) as u32
 }
 
 fn flags_from(low: u32, high: u32) -> u64
     ensures { result ≡ flags_from low high }
 {
-    low as u64 + 4294967296 * high as u64
+    (u64::from(high) << 32) + u64::from(low)
 }
 
 fn fields(words: &[u32; 14]) -> ClockForC
@@ -91,13 +85,10 @@ fn fields(words: &[u32; 14]) -> ClockForC
 pub fn load(words: &[u32; 14]) -> Monitor
     ensures { result ≡ monitor_from words.now }
 {
-    let before = clock(fields(words));
-    let flags = flags_from(words[0], words[1]);
-    let snapshot = flags_from(words[2], words[3]);
     Monitor {
-        flags,
-        snapshot,
-        before,
+        flags: flags_from(words[0], words[1]),
+        snapshot: flags_from(words[2], words[3]),
+        before: clock(fields(words)),
     }
 }
 

@@ -8,7 +8,6 @@ use lib.ListN.{length, take, drop, length-drop}
 use lib.Seq.{length-take-le, take-take, take-add, drop-drop, drop_at}
 use lib.IntN.{ℤ, pos, negsuc}
 use Rattle.kit.specs.Choice.{when}
-use Rattle.kit.proofs.Choice.{cases}
 use Rattle.kit.specs.Reading.{Moved}
 use Rattle.record.specs.Starts.{settings_at, older_settings}
 use Rattle.convert.specs.declared.copying.Copying.{Copying}
@@ -60,11 +59,6 @@ module _ {s : Copying} {b : List ℕ} {r : Copying} {b' : List ℕ} (fits : Fits
       go (negsuc n) = kept-pending ∙ sym (append-nil (pending_of s b))
 
 -- ---- a write
-
-pub first-within : (s : Copying) (p : List ℕ) → first_of s p ≤ front
-first-within s p =
-    cases (λ (n : ℕ). n ≤ front) s.decided (λ _. omega arith)
-    (λ _. cases (λ (n : ℕ). n ≤ front) (settings_at p 0) (λ _. omega arith) (λ _. omega arith))
 
 -- the buffer's part from the first byte on holds the bytes that go
 pub going-part : {s : Copying} {b : List ℕ} → Fits s b

@@ -1,7 +1,12 @@
 // What the converter keeps from one turn to the next, and what a read and a write make of it. Nothing here calls the system.
 ghost use Rattle.std.specs.Prelude.{◌≡◌, ◌+◌, ◌-◌, ◌≤◌};
-ghost use Rattle.kit.specs.Reading.{Moved};
+ghost use Rattle.kit.specs.Reading.{Moved, moved_of, interrupted_of};
 ghost use Rattle.convert.specs.Copying.{room, front, ready_of, over_of, after_read, after_write};
+
+use std::io::ErrorKind;
+
+// The bytes of the buffer.
+pub const ROOM: usize = 65536;
 
 // The bytes of CF 0 (4,16). They stand at the buffer's front all the time, and the trace's bytes after them, so that one
 // write hands over both.
@@ -23,13 +28,7 @@ pub struct Copying {
 pub fn is_over(state: Copying) -> bool
     ensures { result ≡ over_of state }
 {
-    if state.ended {
-        return true;
-    }
-    if state.failed {
-        return true;
-    }
-    !state.taken
+    state.ended || state.failed || !state.taken
 }
 
 // Whether the pending bytes can go. The trace's first two letters decide what comes before it: with fewer pending it has to
@@ -37,31 +36,24 @@ pub fn is_over(state: Copying) -> bool
 pub fn ready(state: Copying) -> bool
     ensures { result ≡ ready_of state }
 {
-    if state.decided {
-        return true;
-    }
-    if state.ended {
-        return true;
-    }
-    2 <= state.waiting
+    state.decided || state.ended || 2 <= state.waiting
 }
 
 // After a read that answered `got`. No bytes are the trace's end. A read that was interrupted is tried again in the next turn.
-pub fn after_read(state: Copying, got: isize, interrupted: bool) -> Copying
-    requires { (front + state.waiting ≤ room) × Moved (room - (front + state.waiting)) got }
-    ensures { result ≡ after_read state got interrupted }
+pub fn after_read(state: Copying, got: Result<usize, ErrorKind>) -> Copying
+    requires { (front + state.waiting ≤ room) × Moved (room - (front + state.waiting)) (moved_of got) }
+    ensures { result ≡ after_read state (moved_of got) (interrupted_of got) }
 {
-    if got < 0 {
-        return Copying {
-            failed: !interrupted,
+    match got {
+        Ok(read) => Copying {
+            waiting: state.waiting + read,
+            ended: read == 0,
             ..state
-        };
-    }
-    let read = got as usize;
-    Copying {
-        waiting: state.waiting + read,
-        ended: read == 0,
-        ..state
+        },
+        Err(kind) => Copying {
+            failed: kind != ErrorKind::Interrupted,
+            ..state
+        },
     }
 }
 

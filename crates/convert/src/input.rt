@@ -4,24 +4,15 @@ ghost use Rattle.convert.specs.Copying.{room, front, Fits};
 ghost use Rattle.convert.specs.Turn.{Refills};
 
 use crate::copying::{Copying, FRONT, after_read};
-use std::io::{Error, ErrorKind, Read, Stdin};
+use std::io::{Read, Stdin};
 
-// Reads once. There is room for a byte, so a read that answers none has met the trace's end.
+// Reads once, as flow's `refill` does; each of the two programs has its own state, and only the read is the same. There is
+// room for a byte, so a read that answers none has met the trace's end.
 pub fn refill(state: Copying, buffer: &mut [u8], mut stdin: Stdin) -> Copying
     requires { Fits state buffer.old × (front + state.waiting < room) }
     ensures { Refills state buffer.old result buffer.new }
 {
     let end = FRONT + state.waiting;
-    match stdin.read(&mut buffer[end..]) {
-        Ok(got) => after_read(state, got as isize, false),
-        Err(error) => {
-            let again = interrupted(&error);
-            after_read(state, -1, again)
-        }
-    }
-}
-
-// Whether the read that failed was interrupted.
-fn interrupted(error: &Error) -> bool {
-    error.kind() == ErrorKind::Interrupted
+    let got = stdin.read(&mut buffer[end..]);
+    after_read(state, got.map_err(|error| error.kind()))
 }

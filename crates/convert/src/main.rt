@@ -6,12 +6,12 @@ mod copying;
 mod input;
 mod output;
 
-ghost use Rattle.std.specs.Prelude.{◌≡◌, ◌+◌, ◌<◌, length};
+ghost use Rattle.std.specs.Prelude.{◌≡◌, ◌+◌, ◌<◌};
 ghost use Rattle.convert.specs.Copying.{room, front, finished_of, Fits};
 ghost use Rattle.convert.specs.Turn.{Turn};
 ghost use Rattle.convert.specs.Whole.{Reached};
 
-use copying::{Copying, is_over, ready};
+use copying::{Copying, ROOM, is_over, ready};
 use input::refill;
 use output::{begin, forward};
 use std::io::{Stderr, Write};
@@ -21,31 +21,27 @@ use std::io::{Stderr, Write};
 const MOST_TURNS: u64 = 18446744073709551615;
 
 fn main(rt: HostRuntime) {
-    let mut space = [0u8; 65536];
-    let buffer: &mut [u8] = &mut space;
-    let state = run(buffer, rt);
+    let mut buffer = [0u8; ROOM];
+    let state = run(&mut buffer, rt);
     report(state, rt.stderr());
 }
 
 // Turns until the copy is over.
-fn run(buffer: &mut [u8], rt: HostRuntime) -> Copying
-    requires { length buffer.old ≡ room }
+fn run(buffer: &mut [u8; ROOM], rt: HostRuntime) -> Copying
     ensures { Reached result buffer.new }
 {
     let mut state = begin(buffer);
-    let mut turns = MOST_TURNS;
-    while turns > 0 {
+    for _ in 0..MOST_TURNS {
         if is_over(state) {
             break;
         }
         state = turn(state, buffer, rt);
-        turns -= 1;
     }
     state
 }
 
 // One turn: some of the trace, and its way out once it is known what comes before it.
-fn turn(state: Copying, buffer: &mut [u8], rt: HostRuntime) -> Copying
+fn turn(state: Copying, buffer: &mut [u8; ROOM], rt: HostRuntime) -> Copying
     requires { Fits state buffer.old × (front + state.waiting < room) }
     ensures { Turn state buffer.old result buffer.new }
 {

@@ -1,15 +1,14 @@
 // The converted trace's way out.
-ghost use Rattle.std.specs.Prelude.{◌≡◌, length};
-ghost use Rattle.convert.specs.Copying.{room, pending_of, first_of, Fits};
+ghost use Rattle.std.specs.Prelude.{◌≡◌};
+ghost use Rattle.convert.specs.Copying.{pending_of, first_of, Fits};
 ghost use Rattle.convert.specs.Turn.{Begins, Handed, Forwards};
 
-use crate::copying::{Copying, FRONT, after_write};
+use crate::copying::{Copying, FRONT, ROOM, after_write};
 use record::starts::settings_at;
 use std::io::{Stdout, Write};
 
 // Puts CF 0 (4,16) at the buffer's front, before anything is read.
-pub fn begin(buffer: &mut [u8]) -> Copying
-    requires { length buffer.old ≡ room }
+pub fn begin(buffer: &mut [u8; ROOM]) -> Copying
     ensures { Begins result buffer.new }
 {
     let older = b"CF\0\0\0\0\x04\0\x10\0";

@@ -1,7 +1,7 @@
 // RULES.md, "Cutting a transfer": the bytes of the burst that starts at an address. Lengths only: no sum of addresses.
 #![tactic(auto)]
 
-ghost use Rattle.std.specs.Prelude.{◌≡◌, ◌-◌, ◌*◌, ◌%◌, ◌<◌, min};
+ghost use Rattle.std.specs.Prelude.{◌≡◌, ◌-◌, ◌*◌, ◌%◌, ◌<◌};
 ghost use Rattle.cut.specs.Cut.{bytes_within, burst_bytes};
 
 // One burst: its first byte and its number of bytes.
@@ -13,12 +13,6 @@ pub struct Burst {
 
 // A burst never leaves the page of this many bytes that it starts in.
 pub const PAGE: u64 = 4096;
-
-pub fn least(a: u64, b: u64) -> u64
-    ensures { result ≡ min a b }
-{
-    if a < b { a } else { b }
-}
 
 // How far the byte at `at` is past the start of its aligned word. A division by the width would cost more than the rest
 // of a step, so each legal width has its own constant one.
@@ -58,7 +52,7 @@ pub fn words_left(width: u32, beats: u32, at: u64) -> u64
 pub fn bytes_within(words: u64, at: u64, left: u32) -> u32
     ensures { result ≡ bytes_within words at left }
 {
-    least(PAGE - at % PAGE, least(words, left as u64)) as u32
+    (PAGE - at % PAGE).min(words.min(left as u64)) as u32
 }
 
 // The bytes of the first burst of a transfer that has `left` bytes to go from `at`.

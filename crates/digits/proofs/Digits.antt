@@ -101,6 +101,19 @@ digits-most (suc k) v h = go (ltb v 10) refl (digits-most k (v / 10) (omega arit
     go true e rest = rw (digits-small v (ltb-true v 10 e)) (omega arith)
     go false e rest = rw (digits_step v (ltb-false v 10 e), length-append) (omega arith)
 
+-- the same below four of the powers of ten
+pub most_two : (v : ℕ) → v < 10 ^ 2 → length (digits_of v) ≤ 2
+most_two = digits-most 1
+
+pub most_three : (v : ℕ) → v < 10 ^ 3 → length (digits_of v) ≤ 3
+most_three = digits-most 2
+
+pub most_six : (v : ℕ) → v < 10 ^ 6 → length (digits_of v) ≤ 6
+most_six = digits-most 5
+
+pub most_eleven : (v : ℕ) → v < 10 ^ 11 → length (digits_of v) ≤ 11
+most_eleven = digits-most 10
+
 -- ---- no zero in front
 
 pub digits-front : (v : ℕ) → 1 ≤ v → 49 ≤ get_or (digits_of v) 0 0

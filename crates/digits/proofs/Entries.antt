@@ -5,9 +5,8 @@ use mathlib.Core.List.{List, [], ◌∷◌, ◌++◌}
 use Prim.Native.Nat.{ℕ, suc, ◌+◌, ◌-◌, ◌*◌, ◌/◌, ◌%◌, ◌≤◌, ◌<◌}
 use native.Mathlib.Omega.{arith}
 use lib.Dec.{ltb}
-use lib.ListN.{length, get_or, set, take, length-append}
-use lib.Seq.{sets, get_or-set_same, get_or-set_other}
-use borrow.Author.Count.{below_more}
+use lib.ListN.{length, take, length-append}
+use lib.Seq.{sets}
 use borrow.Author.Tests.{ltb-true, ltb-false}
 use Rattle.kit.specs.Word.{joined, bytes_of}
 use Rattle.digits.specs.Decimal.{digits_of, last_digits}
@@ -36,20 +35,6 @@ digits-cases P n h one two three = go (ltb n 10) refl (ltb n 100) refl
     go true e t f = subst P (sym (digits-one n (ltb-true n 10 e))) one
     go false e true f = subst P (sym (digits-two n (ltb-false n 10 e) (ltb-true n 100 f))) two
     go false e false f = subst P (sym (digits-three n (ltb-false n 100 f) h)) three
-
--- ---- a table, an entry after the other
-
--- the table's first n entries are as f says
-abbrev pub Below : (ℕ → ℕ) → List ℕ → ℕ → Type 0
-Below f table n = (k : ℕ) → k < n → get_or table k 0 ≡ f k
-
-pub below-start : (f : ℕ → ℕ) (table : List ℕ) → Below f table 0
-below-start f table k h = absurd (omega arith)
-
-pub below_set : (f : ℕ → ℕ) (table : List ℕ) {n v : ℕ} → Below f table n → n < length table → v ≡ f n → Below f (set table n v) (n + 1)
-below_set f table {n} {v} all h e =
-    below_more (λ (k : ℕ). get_or (set table n v) k 0 ≡ f k) n (λ k l. get_or-set_other table n k v 0 (λ i. omega arith) ∙ all k l)
-    (get_or-set_same table n v 0 h ∙ e)
 
 -- ---- the bytes of an entry
 

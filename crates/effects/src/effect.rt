@@ -1,9 +1,10 @@
-// What each record but WR and AR does and prints; those have loops of their own. A record that is refused has no effect: its line is the last.
+// What each record but WR and AR does and prints; those have loops of their own. A record that is refused has no effect: its
+// line is the last.
 ghost use Rattle.std.specs.Prelude.{◌≡◌, ◌+◌, ◌≤◌, length};
-ghost use Rattle.kit.specs.Answer.{number_of};
+ghost use Rattle.kit.specs.Answer.{answer_number};
 ghost use Rattle.session.specs.Effect.{OnMemory, OnWindows, bad_of, settings_of, memory_of, window_of, read_of, steps_of};
 
-use kit::answer::{Answer, number};
+use kit::answer::{Answer, Refusal};
 use kit::limits::MOST_WINDOWS;
 use kit::settings::{Settings, legal};
 use listing::line::Line;
@@ -16,7 +17,7 @@ use state::engine::fresh;
 
 // The last good sequence number, the answer and the mark's position; the replay is over.
 pub fn bad(session: Session, answer: Answer, position: u64) -> Effect
-    ensures { result ≡ bad_of session (number_of answer) position }
+    ensures { result ≡ bad_of session (answer_number answer) position }
 {
     let line = bad_line(session.sequence, answer, position);
     let session = Session {
@@ -37,7 +38,7 @@ pub fn settings(
     ensures { result ≡ settings_of session sequence two width beats position }
 {
     if !legal(Settings { width, beats }) {
-        return bad(session, Answer::Settings, position);
+        return bad(session, Err(Refusal::Settings), position);
     }
     let engine = fresh(Settings { width, beats });
     let chosen = chosen_at_start(two);
@@ -73,7 +74,7 @@ pub fn memory(
     let start = address as usize;
     let end = start + count as usize;
     if memory.len() < end {
-        return bad(session, Answer::MemoryEnd, position);
+        return bad(session, Err(Refusal::MemoryEnd), position);
     }
     let from_end = from + count as usize;
     memory[start..end].copy_from_slice(&input[from..from_end]);
@@ -103,7 +104,7 @@ pub fn window(
 {
     let used = session.windows as usize;
     if MOST_WINDOWS <= used {
-        return bad(session, Answer::WindowCount, position);
+        return bad(session, Err(Refusal::WindowCount), position);
     }
     windows[2 * used] = start;
     windows[2 * used + 1] = count;
@@ -126,28 +127,19 @@ pub fn window(
 pub fn register_read(session: Session, sequence: u32, offset: u32) -> Effect
     ensures { result ≡ read_of session sequence offset }
 {
-    let engine = session.engine;
-    let reading = read(engine, offset);
-    let answer = reading.answer;
-    let answer = number(answer);
+    let (word, second) = match read(session.engine, offset) {
+        Ok(value) => (Word::Read, value),
+        Err(refusal) => (Word::NoRead, refusal.number()),
+    };
+    let line = Line {
+        sequence,
+        word,
+        first: offset as u64,
+        second: second as u64,
+    };
     let session = Session {
         sequence,
         ..session
-    };
-    if answer == 0 {
-        let line = Line {
-            sequence,
-            word: Word::Read,
-            first: offset as u64,
-            second: reading.value as u64,
-        };
-        return Effect { session, line };
-    }
-    let line = Line {
-        sequence,
-        word: Word::NoRead,
-        first: offset as u64,
-        second: answer as u64,
     };
     Effect { session, line }
 }

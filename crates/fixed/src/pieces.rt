@@ -1,16 +1,13 @@
-// Pieces to a fixed destination (key hole) that can be moved as one: each overwrites the one before, and if none of the transfer's
-// bytes is read from that destination nothing sees what the earlier ones wrote.
-ghost use Rattle.std.specs.Prelude.{◌≡◌, true, ◌<◌};
-ghost use Rattle.kit.specs.Settings.{legal_of};
+// Pieces to a fixed destination (key hole) that can be moved as one: each overwrites the one before, and if none of the
+// transfer's bytes is read from that destination nothing sees what the earlier ones wrote.
+ghost use Rattle.std.specs.Prelude.{◌≡◌, true, ◌<◌, IfSome};
 ghost use Rattle.memory.specs.Windows.{windows_of};
 ghost use Rattle.sides.specs.Sides.{side_bytes, Apart};
-ghost use Rattle.state.specs.State.{transfer_fits};
 ghost use Rattle.fixed.specs.Fixed.{PiecesAhead};
 
 use crate::good::good_sides;
-use cut::least;
-use kit::settings::Settings;
-use state::engine::Transfer;
+use state::engine::Control;
+use state::moving::Moving;
 use steps::move_burst::next_bytes;
 
 // The bytes from its start on that a side uses.
@@ -30,29 +27,32 @@ fn apart(first: u32, count: u32, second: u32, number: u32) -> bool
     second as u64 + number as u64 <= first as u64
 }
 
-// How many of them come next, all of one length and known to be good, up to `most`; of any other transfer 0.
+// How many of them come next, all of one length and known to be good, up to `most`, if there are any.
 pub fn pieces_ahead(
-    settings: Settings,
-    reads: bool,
-    writes: bool,
-    transfer: Transfer,
+    control: Control,
+    moving: Moving,
     size: usize,
     windows: &[u32],
     most: u32,
-) -> u32
-    requires settings_value { legal_of settings ≡ true }
-    requires transfer_value { transfer_fits transfer ≡ true }
-    ensures { 0 < result → PiecesAhead settings reads writes transfer size (windows_of windows.now) most result }
+) -> Option<u32>
+    ensures some { IfSome result (λ n. 0 < n) }
+    ensures ahead { IfSome result (PiecesAhead moving.settings control.keyholeread control.keyholewrite moving.transfer size (windows_of windows.now) most) }
 {
-    let width = settings.width;
-    if writes {
-        let used = side_bytes(reads, width, transfer.total);
-        if apart(transfer.source, used, transfer.destination, width) {
-            let good = good_sides(size, windows, width, reads, writes, transfer);
-            let left = least(good, (transfer.total - transfer.moved) as u64);
-            let bytes = next_bytes(settings, writes, transfer);
-            return least(most as u64, left / bytes as u64) as u32;
-        }
+    let width = moving.settings.width;
+    let transfer = moving.transfer;
+    if !control.keyholewrite {
+        return None;
     }
-    0
+    let used = side_bytes(control.keyholeread, width, transfer.total);
+    if !apart(transfer.source, used, transfer.destination, width) {
+        return None;
+    }
+    let good = good_sides(size, windows, control, moving);
+    let left = good.min((transfer.total - transfer.moved) as u64);
+    let bytes = next_bytes(moving, control.keyholewrite);
+    let pieces = (left / bytes as u64).min(most as u64) as u32;
+    if pieces == 0 {
+        return None;
+    }
+    Some(pieces)
 }

@@ -1,13 +1,18 @@
 // What a replay keeps from one turn to the next, and what a read and a pass make of it. Nothing here calls the system.
 ghost use Rattle.std.specs.Prelude.{◌≡◌, ◌+◌, ◌-◌, ◌≤◌, ◌<◌, ◌^◌};
-ghost use Rattle.kit.specs.Reading.{Moved};
+ghost use Rattle.kit.specs.Reading.{Moved, moved_of, interrupted_of};
 ghost use Rattle.flow.specs.Flow.{opened_of, wants_of, left_of, room, after_read, over_of, after_pass};
 
 use session::{AfterPass, LONGEST_RECORD, Mode, Session, start};
 use state::engine::Engine;
+use std::io::ErrorKind;
 
-// The session, with the engine that is not the chosen one beside it; the place in the whole trace of the byte at `at`; and the part of the buffer, from `at` up to `filled`,
-// whose bytes are pending: read, but not used yet. `ended` says that the trace ends with them, `over` that no turn is to come.
+// The bytes of each of the two buffers, for the trace and for the listing.
+pub const ROOM: usize = 65536;
+
+// The session, with the engine that is not the chosen one beside it; the place in the whole trace of the byte at `at`; and
+// the part of the buffer, from `at` up to `filled`, whose bytes are pending: read, but not used yet. `ended` says that the
+// trace ends with them, `over` that no turn is to come.
 #[derive(Clone, Copy)]
 pub struct Flow {
     pub session: Session,
@@ -42,33 +47,29 @@ pub fn wants(flow: Flow) -> bool
     requires { flow.at ≤ flow.filled }
     ensures { result ≡ wants_of flow }
 {
-    if flow.ended {
-        return false;
-    }
-    flow.filled - flow.at < LONGEST_RECORD
+    !flow.ended && flow.filled - flow.at < LONGEST_RECORD
 }
 
 // After a read that answered `got`, with the pending bytes moved to the buffer's front. No bytes are the trace's end. A read
 // that was interrupted is tried again in the next turn; one that failed ends the replay, but is not the trace's end.
-pub fn after_read(flow: Flow, got: isize, interrupted: bool) -> Flow
-    requires { (flow.at ≤ flow.filled) × (left_of flow ≤ room) × Moved (room - left_of flow) got }
-    ensures { result ≡ after_read flow got interrupted }
+pub fn after_read(flow: Flow, got: Result<usize, ErrorKind>) -> Flow
+    requires { (flow.at ≤ flow.filled) × (left_of flow ≤ room) × Moved (room - left_of flow) (moved_of got) }
+    ensures { result ≡ after_read flow (moved_of got) (interrupted_of got) }
 {
     let left = flow.filled - flow.at;
-    if got < 0 {
-        return Flow {
+    match got {
+        Ok(read) => Flow {
+            at: 0,
+            filled: left + read,
+            ended: read == 0,
+            ..flow
+        },
+        Err(kind) => Flow {
             at: 0,
             filled: left,
-            over: !interrupted,
+            over: kind != ErrorKind::Interrupted,
             ..flow
-        };
-    }
-    let read = got as usize;
-    Flow {
-        at: 0,
-        filled: left + read,
-        ended: read == 0,
-        ..flow
+        },
     }
 }
 
@@ -76,15 +77,12 @@ pub fn after_read(flow: Flow, got: isize, interrupted: bool) -> Flow
 fn is_over(sent: bool, mode: Mode, left: usize, ended: bool) -> bool
     ensures { result ≡ over_of sent mode left ended }
 {
-    if !sent {
-        return true;
-    }
-    match mode {
-        Mode::Over => true,
-        Mode::Steps { left: _, taken: _ } => false,
-        Mode::Start => { if ended { left == 0 } else { false } }
-        Mode::Records => { if ended { left == 0 } else { false } }
-    }
+    !sent
+        || match mode {
+            Mode::Over => true,
+            Mode::Steps { .. } => false,
+            Mode::Start | Mode::Records => ended && left == 0,
+        }
 }
 
 // After a pass over the pending bytes; `sent` says that its text was taken.

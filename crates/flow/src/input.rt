@@ -18,18 +18,15 @@ pub fn refill(flow: Flow, buffer: &mut [u8], mut stdin: Stdin, stderr: Stderr) -
     let at = flow.at;
     let left = flow.filled - at;
     copy(buffer, at, 0, left);
-    match stdin.read(&mut buffer[left..]) {
-        Ok(got) => after_read(flow, got as isize, false),
-        Err(error) => {
-            let again = interrupted(&error, stderr);
-            after_read(flow, -1, again)
-        }
-    }
+    let got = stdin.read(&mut buffer[left..]);
+    after_read(flow, got.map_err(|error| reported(&error, stderr)))
 }
 
-// Whether the read that failed was interrupted. If it failed otherwise, says so.
-fn interrupted(error: &Error, stderr: Stderr) -> bool {
-    report(error.kind() == ErrorKind::Interrupted, stderr)
+// How a read failed. If it was not interrupted, says that it failed.
+fn reported(error: &Error, stderr: Stderr) -> ErrorKind {
+    let kind = error.kind();
+    report(kind == ErrorKind::Interrupted, stderr);
+    kind
 }
 
 // Says so if the trace was not read to its end.

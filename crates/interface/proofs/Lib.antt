@@ -1,5 +1,4 @@
 pub mod CallResults
 pub mod Judges
-pub mod ClockResults
 pub mod MovedWords
 pub mod Claims

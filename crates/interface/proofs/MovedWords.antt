@@ -1,5 +1,5 @@
 -- A burst that goes on, moved over the words: what a step leaves.
-use mathlib.Core.Path.{◌≡◌, refl, sym, ap, ap₂, subst, ◌∙◌}
+use mathlib.Core.Path.{◌≡◌, refl, sym, ap, subst, ◌∙◌}
 use Prim.Native.Nat.{ℕ, ◌+◌, ◌/◌, ◌^◌, ◌≤◌, ◌<◌}
 use mathlib.Core.Bool.{true, false, ◌&&◌}
 use mathlib.Core.List.{List}
@@ -21,8 +21,7 @@ use Rattle.steps.specs.Step.{AfterAdvance, advance_of}
 use Rattle.steps.specs.Claims.{Bytes}
 use Rattle.steps.specs.declared.event.Event.TheVariants.{Move as MoveEvent}
 use Rattle.steps.proofs.Keeps.{advance-well-formed}
-use Rattle.moves.specs.declared.move_on.MovedOn.{MovedOn}
-use Rattle.moves.specs.declared.move_on.MovedOn.TheVariants.{Moved, Nothing}
+use Rattle.std.specs.Prelude.{Some}
 use Rattle.moves.specs.Moves.{MovesOn, moved_to}
 use Rattle.runs.specs.Run.{step_answer, step_of}
 use Rattle.runs.specs.Claims.{Acceptable}
@@ -31,9 +30,8 @@ use Rattle.words.specs.EngineWords.{word, settings_from, transfer_from, engine_f
 use Rattle.spelling.specs.Spelling.{moves_of}
 use Rattle.spelling.proofs.Listed.{apart}
 use Rattle.spelling.proofs.Midst.{Midst, midst, moved-words}
-use Rattle.interface.specs.declared.stepping.SteppedForC.{SteppedForC}
-use Rattle.interface.specs.Calls.{WordsAfterStep, step_report_of, step_words_seen, words_after_step, step_words_of}
-use Rattle.interface.specs.Moving.{goes_on_of, MovesWords}
+use Rattle.interface.specs.Calls.{step_report_of, step_words_seen, words_after_step, step_words_of}
+use Rattle.interface.specs.Moving.{goes_on_of}
 
 -- what is judged, by name
 pub record Judged (w : List ℕ) (size windows : ℕ) : Type 0 where
@@ -63,12 +61,6 @@ judged w size windows e =
       destination = ap (λ (x : ℕ). eqb x 1) (eqb-true (word w 21) 0 d.1);
     }
 
--- where no burst was moved all is as it was
-pub nothing : (w m windows after : List ℕ) (x : Settings) (t : Transfer) {r : MovedOn} → r ≡ Nothing → MovesOn x t (windows_of windows) m r after
-    → MovesWords w m windows r w after
-nothing w m windows after x t e moves =
-    subst (λ (r : MovedOn). MovesWords w m windows r w after) (sym e) (refl, subst (λ (r : MovedOn). MovesOn x t (windows_of windows) m r after) e moves)
-
 module _ (w m windows : List ℕ) (bytes : Bytes m) (j : Judged w (length m) (length windows / 2)) where
   inside : Midst w
   inside = midst w j.moves
@@ -82,13 +74,11 @@ module _ (w m windows : List ℕ) (bytes : Bytes m) (j : Judged w (length m) (le
 
   module _ (b : Burst) {after : List ℕ} where
     -- the step of the engine that the words spell
-    pub advanced : {x : Settings} {t : Transfer} {r : MovedOn} → x ≡ settings_from w → t ≡ transfer_from w → r ≡ Moved b
-        → MovesOn x t (windows_of windows) m r after
+    pub advanced : {x : Settings} {t : Transfer} → x ≡ settings_from w → t ≡ transfer_from w → MovesOn x t (windows_of windows) m (Some b) after
         → advance_of (engine_from w) m (windows_of windows) ≡ record { event = MoveEvent b; engine = further b; memory = after }
-    advanced {x} {t} {r} e f g moves =
-        subst (λ (q : MovedOn). MovesOn (settings_from w) (transfer_from w) (windows_of windows) m q after) g
-        (subst (λ (u : Transfer). MovesOn (settings_from w) u (windows_of windows) m r after) f
-        (subst (λ (y : Settings). MovesOn y t (windows_of windows) m r after) e moves))
+    advanced {x} {t} e f moves =
+        subst (λ (u : Transfer). MovesOn (settings_from w) u (windows_of windows) m (Some b) after) f
+        (subst (λ (y : Settings). MovesOn y t (windows_of windows) m (Some b) after) e moves)
         (engine_from w) (record { set = refl; source = j.source; destination = j.destination; phase = inside.phase })
 
     module _ (moved : advance_of (engine_from w) m (windows_of windows) ≡ record { event = MoveEvent b; engine = further b; memory = after }) where
@@ -108,15 +98,3 @@ module _ (w m windows : List ℕ) (bytes : Bytes m) (j : Judged w (length m) (le
           (ap (λ (s : Engine). words_after_step (step_of s m windows) w) inside.held
           ∙ ap (λ r. words_after_step r w) (step-advances (engine_from w) m windows acceptable)
           ∙ ap (λ (r : AfterAdvance). words_after_step (step_answer 0 r) w) moved)
-
--- a step by a burst, or by the whole step after nothing was done
-module _ (w m windows left after : List ℕ) {r : MovedOn} where
-  pub by-burst : (b : Burst) {report : SteppedForC} → r ≡ Moved b → MovesWords w m windows r left after → report ≡ step_report_of 0 (MoveEvent b)
-      → step_words_seen report left after ≡ step_words_of w m windows
-  by-burst b e moves told =
-      ap (λ (x : SteppedForC). step_words_seen x left after) told ∙ subst (λ (q : MovedOn). MovesWords w m windows q left after) e moves
-
-  pub by_whole : {x : WordsAfterStep} → r ≡ Nothing → MovesWords w m windows r left after → x ≡ step_words_of left after windows → x ≡ step_words_of w m windows
-  by_whole e moves whole =
-      let same = subst (λ (q : MovedOn). MovesWords w m windows q left after) e moves in
-      whole ∙ ap₂ (λ (v k : List ℕ). step_words_of v k windows) same.0 same.1

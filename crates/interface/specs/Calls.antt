@@ -1,6 +1,8 @@
 -- include/belikumba.h, "Engine": each call over an engine's words is the call on the engine that they hold.
-use Rattle.std.specs.Prelude.{ℕ, ◌/◌, List, length, eqb}
+use Rattle.std.specs.Prelude.{ℕ, ◌/◌, List, length, eqb, Result, Ok, Err}
 use Rattle.kit.specs.Choice.{when}
+use Rattle.kit.specs.declared.answer.Refusal.{Refusal}
+use Rattle.kit.specs.Answer.{number_of}
 use Rattle.kit.specs.Settings.{legal_of}
 use Rattle.memory.specs.Windows.{windows_of}
 use Rattle.state.specs.declared.engine.Engine.{Engine}
@@ -8,6 +10,7 @@ use Rattle.state.specs.State.{well_formed_of, interrupt_line_of}
 use Rattle.reads.specs.Read.{Value, gives, no_value, read_of}
 use Rattle.registers.specs.Write.{AfterWrite, write_of}
 use Rattle.steps.specs.declared.event.Event.{Event}
+use Rattle.steps.specs.declared.event.Event.TheVariants.{None}
 use Rattle.steps.specs.Report.{report_of}
 use Rattle.steps.specs.Step.{begun}
 use Rattle.runs.specs.Run.{refusal_of, AfterWalk, after_steps, walk_from, AfterStep, step_of, AfterRun, run_of}
@@ -59,8 +62,9 @@ pub record WordsAfterWalk : Type 0 where
   pub words : List ℕ
   pub memory : List ℕ
 
-abbrev pub walk_words_seen : WalkedWords → List ℕ → List ℕ → WordsAfterWalk
-walk_words_seen r w m = record { answer = r.answer; event = r.event; steps = r.steps; words = w; memory = m }
+abbrev pub walk_words_seen : Result WalkedWords Refusal → List ℕ → List ℕ → WordsAfterWalk
+walk_words_seen (Ok r) w m = record { answer = 0; event = r.event; steps = r.steps; words = w; memory = m }
+walk_words_seen (Err refusal) w m = record { answer = number_of refusal; event = None; steps = 0; words = w; memory = m }
 
 abbrev pub words_after_walk : ℕ → AfterWalk → List ℕ → WordsAfterWalk
 words_after_walk n r w = record { answer = n; event = r.event; steps = r.steps; words = words_after n r.engine w; memory = r.memory }

@@ -1,13 +1,14 @@
 // include/belikumba.h, "Monitor": one bus clock over a monitor's words.
 ghost use Rattle.std.specs.Prelude.{◌≡◌};
+ghost use Rattle.kit.specs.Answer.{number_of};
 ghost use Rattle.interface.specs.Clocks.{clocked_seen, bus_clock_words_of, refused_of};
 
 use clocks::monitor_words::{ClockForC, clock, load, store};
-use kit::answer::number;
+use kit::answer::Refusal;
 use kit::settings::{Settings, legal};
 use monitor::monitor::bus_clock;
 
-// An answer's number, how many flags are up and the lowest of them, both 0 beside a refusal.
+// What C is handed: an answer's number, how many flags are up and the lowest of them, both 0 beside a refusal.
 #[repr(C)]
 #[derive(Clone, Copy)]
 pub struct ClockedForC {
@@ -16,11 +17,11 @@ pub struct ClockedForC {
     pub lowest: u32,
 }
 
-fn refused(answer: u32) -> ClockedForC
-    ensures { result ≡ refused_of answer }
+fn refused(refusal: Refusal) -> ClockedForC
+    ensures { result ≡ refused_of (number_of refusal) }
 {
     ClockedForC {
-        answer,
+        answer: refusal.number(),
         count: 0,
         lowest: 0,
     }
@@ -35,26 +36,23 @@ pub fn belikumba_bus_clock(
     ensures { clocked_seen result words.new ≡ bus_clock_words_of words.old width beats fields }
 {
     if !legal(Settings { width, beats }) {
-        return refused(1);
+        return refused(Refusal::Settings);
     }
     if words[4] > 7 {
-        return refused(9);
+        return refused(Refusal::State);
     }
     if fields.bits > 7 {
-        return refused(13);
+        return refused(Refusal::Clock);
     }
-    let clocked = bus_clock(load(words), width, beats, clock(fields));
-    let answer = clocked.answer;
-    let answer = number(answer);
-    if answer != 0 {
-        return refused(answer);
-    }
-    let monitor = clocked.monitor;
-    let lowest = monitor.lowest();
-    store(monitor, words);
-    ClockedForC {
-        answer,
-        count: clocked.count,
-        lowest,
+    match bus_clock(load(words), width, beats, clock(fields)) {
+        Ok(clocked) => {
+            store(clocked.monitor, words);
+            ClockedForC {
+                answer: 0,
+                count: clocked.count,
+                lowest: clocked.monitor.lowest(),
+            }
+        }
+        Err(refusal) => refused(refusal),
     }
 }

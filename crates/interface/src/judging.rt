@@ -3,10 +3,9 @@ ghost use Rattle.std.specs.Prelude.{◌≡◌};
 ghost use Rattle.places.specs.Locate.{located_of};
 ghost use Rattle.interface.specs.Judging.{judged_for_c};
 
-use kit::answer::number;
 use places::locate::{locate, verdict_number};
 
-// An answer's number, the verdict's, and its place and window, all 0 beside a refusal.
+// What C is handed: an answer's number, the verdict's, and its place and window, all 0 beside a refusal.
 #[repr(C)]
 #[derive(Clone, Copy)]
 pub struct JudgedForC {
@@ -19,13 +18,18 @@ pub struct JudgedForC {
 pub fn belikumba_judge(size: usize, windows: &[u32], start: u32, bytes: u32) -> JudgedForC
     ensures { result ≡ judged_for_c (located_of size windows.now start bytes) }
 {
-    let located = locate(size, windows, start, bytes);
-    let answer = located.answer;
-    let verdict = located.verdict;
-    JudgedForC {
-        answer: number(answer),
-        verdict: verdict_number(verdict),
-        place: located.place,
-        window: located.window,
+    match locate(size, windows, start, bytes) {
+        Ok(located) => JudgedForC {
+            answer: 0,
+            verdict: verdict_number(located.verdict),
+            place: located.place,
+            window: located.window,
+        },
+        Err(refusal) => JudgedForC {
+            answer: refusal.number(),
+            verdict: 0,
+            place: 0,
+            window: 0,
+        },
     }
 }

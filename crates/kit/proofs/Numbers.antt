@@ -1,15 +1,17 @@
 -- Two answers with one number are one answer.
 use mathlib.Core.Path.{◌≡◌, refl, sym, ap, ◌∙◌}
 use Prim.Native.Nat.{ℕ}
+use mathlib.Core.Bool.{false}
 use lib.Dec.{eqb}
 use Rattle.kit.specs.Choice.{when}
-use Rattle.kit.specs.Answer.{number_of}
-use Rattle.kit.specs.declared.answer.Answer.{Answer}
-use Rattle.kit.specs.declared.answer.Answer.TheVariants.{Done, Settings, MemorySize, Offset, Busy, ErrorSet, WindowCount, PlanRange, PlanRoom, State, Record, Sequence, MemoryEnd, Clock, Engine}
+use Rattle.std.specs.Prelude.{Result, Ok, Err, ⊤}
+use Rattle.kit.specs.Answer.{number_of, answer_number}
+use Rattle.kit.specs.declared.answer.Refusal.{Refusal}
+use Rattle.kit.specs.declared.answer.Refusal.TheVariants.{Settings, MemorySize, Offset, Busy, ErrorSet, WindowCount, PlanRange, PlanRoom, State, Record, Sequence, MemoryEnd, Clock, Engine}
 
--- the answer of a number
-answer_of : ℕ → Answer
-answer_of n =
+-- what is refused with a number
+refusal_of : ℕ → Refusal
+refusal_of n =
     when (eqb n 1) Settings
     (when (eqb n 2) MemorySize
     (when (eqb n 3) Offset
@@ -22,12 +24,10 @@ answer_of n =
     (when (eqb n 10) Record
     (when (eqb n 11) Sequence
     (when (eqb n 12) MemoryEnd
-    (when (eqb n 13) Clock
-    (when (eqb n 21) Engine Done)))))))))))))
+    (when (eqb n 13) Clock Engine))))))))))))
 
-back : (a : Answer) → answer_of (number_of a) ≡ a
-unfolding answer_of
-back Done = refl
+back : (r : Refusal) → refusal_of (number_of r) ≡ r
+unfolding refusal_of
 back Settings = refl
 back MemorySize = refl
 back Offset = refl
@@ -43,5 +43,47 @@ back MemoryEnd = refl
 back Clock = refl
 back Engine = refl
 
-pub number-tells : {a b : Answer} → number_of a ≡ number_of b → a ≡ b
-number-tells {a} {b} e = sym (back a) ∙ ap answer_of e ∙ back b
+-- the answer of a number
+answer_of : ℕ → Result ⊤ Refusal
+answer_of n = when (eqb n 0) (Ok tt) (Err (refusal_of n))
+
+answer_back : (a : Result ⊤ Refusal) → answer_of (answer_number a) ≡ a
+unfolding answer_of refusal_of
+answer_back (Ok tt) = refl
+answer_back (Err Settings) = refl
+answer_back (Err MemorySize) = refl
+answer_back (Err Offset) = refl
+answer_back (Err Busy) = refl
+answer_back (Err ErrorSet) = refl
+answer_back (Err WindowCount) = refl
+answer_back (Err PlanRange) = refl
+answer_back (Err PlanRoom) = refl
+answer_back (Err State) = refl
+answer_back (Err Record) = refl
+answer_back (Err Sequence) = refl
+answer_back (Err MemoryEnd) = refl
+answer_back (Err Clock) = refl
+answer_back (Err Engine) = refl
+
+pub number-tells : {a b : Result ⊤ Refusal} → answer_number a ≡ answer_number b → a ≡ b
+number-tells {a} {b} e = sym (answer_back a) ∙ ap answer_of e ∙ answer_back b
+
+pub refusal-tells : {a b : Refusal} → number_of a ≡ number_of b → a ≡ b
+refusal-tells {a} {b} e = sym (back a) ∙ ap refusal_of e ∙ back b
+
+-- no refusal has the number 0
+pub refusal-some : (r : Refusal) → eqb (number_of r) 0 ≡ false
+refusal-some Settings = refl
+refusal-some MemorySize = refl
+refusal-some Offset = refl
+refusal-some Busy = refl
+refusal-some ErrorSet = refl
+refusal-some WindowCount = refl
+refusal-some PlanRange = refl
+refusal-some PlanRoom = refl
+refusal-some State = refl
+refusal-some Record = refl
+refusal-some Sequence = refl
+refusal-some MemoryEnd = refl
+refusal-some Clock = refl
+refusal-some Engine = refl

@@ -1,10 +1,9 @@
-// RULES.md, "Numbered answers": one case an answer, named after what was wrong.
+// RULES.md, "Numbered answers": a call is done, or it is refused; one case a refusal, named after what was wrong.
 ghost use Rattle.std.specs.Prelude.{◌≡◌};
-ghost use Rattle.kit.specs.Answer.{number_of};
+ghost use Rattle.kit.specs.Answer.{number_of, answer_number};
 
 #[derive(Clone, Copy)]
-pub enum Answer {
-    Done,
+pub enum Refusal {
     Settings,
     MemorySize,
     Offset,
@@ -21,25 +20,39 @@ pub enum Answer {
     Engine,
 }
 
-// The answer's number in RULES.md.
+// Done, or refused.
+pub type Answer = Result<(), Refusal>;
+
+impl Refusal {
+    // Its number in RULES.md.
+    pub fn number(self) -> u32
+        ensures { result ≡ number_of self }
+    {
+        match self {
+            Refusal::Settings => 1,
+            Refusal::MemorySize => 2,
+            Refusal::Offset => 3,
+            Refusal::Busy => 4,
+            Refusal::ErrorSet => 5,
+            Refusal::WindowCount => 6,
+            Refusal::PlanRange => 7,
+            Refusal::PlanRoom => 8,
+            Refusal::State => 9,
+            Refusal::Record => 10,
+            Refusal::Sequence => 11,
+            Refusal::MemoryEnd => 12,
+            Refusal::Clock => 13,
+            Refusal::Engine => 21,
+        }
+    }
+}
+
+// The answer's number in RULES.md: 0 where it is done.
 pub fn number(answer: Answer) -> u32
-    ensures { result ≡ number_of answer }
+    ensures { result ≡ answer_number answer }
 {
     match answer {
-        Answer::Done => 0,
-        Answer::Settings => 1,
-        Answer::MemorySize => 2,
-        Answer::Offset => 3,
-        Answer::Busy => 4,
-        Answer::ErrorSet => 5,
-        Answer::WindowCount => 6,
-        Answer::PlanRange => 7,
-        Answer::PlanRoom => 8,
-        Answer::State => 9,
-        Answer::Record => 10,
-        Answer::Sequence => 11,
-        Answer::MemoryEnd => 12,
-        Answer::Clock => 13,
-        Answer::Engine => 21,
+        Ok(()) => 0,
+        Err(refusal) => refusal.number(),
     }
 }

@@ -4,6 +4,5 @@
 pub mod answer;
 pub mod limits;
 pub mod logic;
-pub mod order;
 pub mod settings;
 pub mod word;

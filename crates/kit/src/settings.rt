@@ -9,31 +9,23 @@ pub struct Settings {
     pub beats: u32,
 }
 
+#[tactic(auto, unfolding(crate::specs::Settings::legal_width))]
 fn legal_width(width: u32) -> bool
     ensures { result ≡ legal_width width }
 {
-    match width {
-        4 | 8 | 16 | 32 | 64 | 128 => true,
-        _ => false,
-    }
+    matches!(width, 4 | 8 | 16 | 32 | 64 | 128)
 }
 
+#[tactic(auto, unfolding(crate::specs::Settings::legal_beats))]
 fn legal_beats(beats: u32) -> bool
     ensures { result ≡ legal_beats beats }
 {
-    match beats {
-        2 | 4 | 8 | 16 | 32 | 64 | 128 | 256 => true,
-        _ => false,
-    }
+    matches!(beats, 2 | 4 | 8 | 16 | 32 | 64 | 128 | 256)
 }
 
 // Whether width and beats are both on RULES.md's lists.
 pub fn legal(settings: Settings) -> bool
     ensures { result ≡ legal_of settings }
 {
-    if legal_width(settings.width) {
-        legal_beats(settings.beats)
-    } else {
-        false
-    }
+    legal_width(settings.width) && legal_beats(settings.beats)
 }

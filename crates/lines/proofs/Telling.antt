@@ -7,9 +7,13 @@ use native.Mathlib.Omega.{arith}
 use lib.ListN.{length, take}
 use lib.Dec.{eqb, leb}
 use borrow.Author.Tests.{eqb-true, eqb-false, leb-false}
+use Rattle.std.specs.Prelude.{Result, Ok, Err, is_ok, ⊤}
+use Rattle.kit.specs.declared.answer.Refusal.{Refusal}
+use Rattle.kit.specs.Answer.{answer_number}
 use Rattle.kit.specs.Choice.{either}
 use Rattle.kit.specs.Limits.{most_windows}
 use Rattle.kit.proofs.Choice.{never, neither}
+use Rattle.kit.proofs.Numbers.{refusal-some}
 use Rattle.memory.specs.Windows.{windows_of}
 use Rattle.state.specs.declared.engine.Engine.{Engine}
 use Rattle.state.specs.declared.engine.Phase.{Phase}
@@ -36,6 +40,11 @@ use Rattle.session.specs.Stepping.{most_steps, used_of, stops_of, accepted_of, s
 use Rattle.session.specs.Pass.{line_room, TakesSteps}
 use Rattle.session.proofs.Passing.{Passing, passing-begin, passing-turn, takes-by}
 use Rattle.session.proofs.StepLines.{stepping, stop-turn, step-turn, accepted-on}
+
+-- a refusal's number is not 0
+pub accepts : (r : Result ⊤ Refusal) → is_ok r ≡ eqb (answer_number r) 0
+accepts (Ok done) = refl
+accepts (Err refusal) = sym (refusal-some refusal)
 
 -- an ST that goes on: each test failed
 pub record Goes (left taken : ℕ) (accepted : Bool) : Type 0 where
@@ -99,9 +108,6 @@ module _ {s₀ : Session} {at : ℕ} {m₀ w out₀ : List ℕ} {put₀ : ℕ} {
   module _ (go : stops_of e.phase left taken accepted ≡ false) where
     going : Goes left taken accepted
     going = goes_on e.phase left taken accepted go
-
-    pub telling-goes : Goes left taken accepted
-    telling-goes = going
 
     pub telling-acceptable : Acceptable e m (min s₀.windows most_windows)
     telling-acceptable =

@@ -1,12 +1,11 @@
 // The lines of an ST, in a loop of their own that carries the engine: refusals are judged once.
 ghost use Rattle.std.specs.Prelude.{◌≡◌, ◌+◌, ◌≤◌, length};
-ghost use Rattle.digits.specs.Tables.{Tables};
 ghost use Rattle.session.specs.declared.Mode.TheVariants.{Steps};
 ghost use Rattle.session.specs.Pass.{TakesSteps};
 
 use crate::stepping::{event_line, stop_line, stops, used};
-use kit::answer::number;
-use listing::line::{put_line, put_stop_line};
+use digits::tables::DigitTables;
+use listing::line::{put_line, put_quick_line};
 use runs::run::refusal;
 use session::{LINE_ROOM, Mode, Passed, Session};
 use state::engine::Engine;
@@ -20,14 +19,12 @@ pub fn lines(
     at: usize,
     memory: &mut [u8],
     windows: &[u32],
-    leading: &[u32; 1000],
-    padded: &[u32; 1000],
+    tables: &DigitTables,
     out: &mut [u8],
     put: usize,
 ) -> Passed
     requires mode_value { session.mode ≡ Steps left taken }
     requires in_bounds { 32 ≤ length windows.now }
-    requires tables { Tables leading.now padded.now }
     requires put_in_bounds { put + 64 ≤ length out.old }
     ensures { TakesSteps session at memory.old windows.now out.old put result memory.new out.new }
 {
@@ -37,16 +34,16 @@ pub fn lines(
     // No step changes them: taken from here, they are not carried from step to step.
     let settings = engine.settings;
     let simple = engine.simple;
-    let answer = refusal(engine, memory.len(), end / 2);
-    let accepted = number(answer) == 0;
+    let accepted = refusal(engine, memory.len(), end / 2).is_ok();
     let mut left = left;
     let mut taken = taken;
     let mut put = put;
+    // The steps are counted for the line that stops them, and each turn asks first whether there is room: no `for` does both.
     while put <= last {
         let phase = engine.phase;
         if stops(phase, left, taken, accepted) {
             let line = stop_line(session.sequence, taken, phase);
-            let put = put_stop_line(leading, padded, out, put, line);
+            let put = put_quick_line::<2>(tables, out, put, line);
             let session = Session {
                 engine,
                 mode: Mode::Records,
@@ -57,7 +54,7 @@ pub fn lines(
         let advanced = advance(engine, memory, &windows[..end]);
         let event = advanced.event;
         let line = event_line(session.sequence, event);
-        put = put_line(leading, padded, out, put, line);
+        put = put_line(tables, out, put, line);
         let after = advanced.engine;
         engine = Engine {
             settings,

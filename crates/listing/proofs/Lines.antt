@@ -19,7 +19,7 @@ use Rattle.digits.proofs.Digits.{every_append, digits-each, digits-some, digits-
 use Rattle.listing.specs.declared.line.Line.{Line}
 use Rattle.listing.specs.Word.{blank, word_of, spaced_of, zeros_of, eight_of}
 use Rattle.listing.specs.Line.{line_feed, line_of, header_of}
-use Rattle.listing.proofs.Words.{spaced-most, letters-small}
+use Rattle.listing.proofs.Words.{spaced_most, letters-small}
 
 -- ---- how a line is put
 
@@ -85,23 +85,24 @@ line-length l = simp length-append (omega arith)
 pub line-some : (l : Line) → 7 ≤ length (line_of l)
 line-some l = omega (arith, line-length l, digits-some l.sequence, digits-some l.first, digits-some l.second)
 
--- the most bytes of each part of a line
-pub record Parts (l : Line) : Type 0 where
-  pub sequence : length (digits_of l.sequence) ≤ 10
-  pub word : length (spaced_of l.word) ≤ 7
-  pub first : length (digits_of l.first) ≤ 20
-  pub second : length (digits_of l.second) ≤ 20
+-- the most bytes of a number and the byte that closes it
+pub closed_short : (v e : ℕ) → v < 2 ^ 32 → length (digits_of v ++ (e ∷ [])) ≤ 11
+closed_short v e h = omega (arith, closed-length v e, digits-most 9 v (omega arith))
 
-pub parts-most : (l : Line) → l.sequence < 2 ^ 32 → l.first < 2 ^ 64 → l.second < 2 ^ 64 → Parts l
-parts-most l s f g = record {
-  sequence = digits-most 9 l.sequence (omega arith);
-  word = spaced-most l.word;
-  first = digits-most 19 l.first (omega arith);
-  second = digits-most 19 l.second (omega arith);
-}
+pub closed_long : (v e : ℕ) → v < 2 ^ 64 → length (digits_of v ++ (e ∷ [])) ≤ 21
+closed_long v e h = omega (arith, closed-length v e, digits-most 19 v (omega arith))
 
 pub line-most : (l : Line) → l.sequence < 2 ^ 32 → l.first < 2 ^ 64 → l.second < 2 ^ 64 → length (line_of l) ≤ 60
-line-most l s f g = omega (arith, line-length l, parts-most l s f g, length-append (word_of l.word) (blank ∷ []))
+line-most l s f g =
+    omega (
+      arith,
+      line-length l,
+      digits-most 9 l.sequence (omega arith),
+      digits-most 19 l.first (omega arith),
+      digits-most 19 l.second (omega arith),
+      spaced_most l.word,
+      length-append (word_of l.word) (blank ∷ []),
+    )
 
 -- ---- one line feed, at the end
 

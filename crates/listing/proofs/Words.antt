@@ -14,22 +14,27 @@ use Rattle.listing.specs.declared.word.Word.{Word}
 use Rattle.listing.specs.declared.word.Word.TheVariants.{Set, Memory, Window, Write, Read, NoRead, Bus, Fetch, Move, Fault, Update, Halt, Stop, Bad}
 use Rattle.listing.specs.Word.{blank, word_of, spaced_of, eight_of}
 
--- two words of four bytes hold the eight
-halves : (w : Word) → bytes_of (word_at (eight_of w) 0) ++ bytes_of (word_at (eight_of w) 4) ≡ eight_of w
-halves Set = refl
-halves Memory = refl
-halves Window = refl
-halves Write = refl
-halves Read = refl
-halves NoRead = refl
-halves Bus = refl
-halves Fetch = refl
-halves Move = refl
-halves Fault = refl
-halves Update = refl
-halves Halt = refl
-halves Stop = refl
-halves Bad = refl
+-- what is computed of each word: two words of four bytes hold its eight, it has at most six letters, and each is a small one
+record Computed (w : Word) : Type 0 where
+  halves : bytes_of (word_at (eight_of w) 0) ++ bytes_of (word_at (eight_of w) 4) ≡ eight_of w
+  most : length (word_of w) ≤ 6
+  small : each (leb 97) (word_of w) ≡ true
+
+computed : (w : Word) → Computed w
+computed Set = record { halves = refl; most = omega arith; small = refl }
+computed Memory = record { halves = refl; most = omega arith; small = refl }
+computed Window = record { halves = refl; most = omega arith; small = refl }
+computed Write = record { halves = refl; most = omega arith; small = refl }
+computed Read = record { halves = refl; most = omega arith; small = refl }
+computed NoRead = record { halves = refl; most = omega arith; small = refl }
+computed Bus = record { halves = refl; most = omega arith; small = refl }
+computed Fetch = record { halves = refl; most = omega arith; small = refl }
+computed Move = record { halves = refl; most = omega arith; small = refl }
+computed Fault = record { halves = refl; most = omega arith; small = refl }
+computed Update = record { halves = refl; most = omega arith; small = refl }
+computed Halt = record { halves = refl; most = omega arith; small = refl }
+computed Stop = record { halves = refl; most = omega arith; small = refl }
+computed Bad = record { halves = refl; most = omega arith; small = refl }
 
 pub word-put : (w : Word) (m : List ℕ) (at : ℕ) {m₁ m₂ : List ℕ} {a b : ℕ} → a ≡ word_at (eight_of w) 0 → b ≡ word_at (eight_of w) 4
     → m₁ ≡ sets m at (bytes_of a) → m₂ ≡ sets m₁ (at + 4) (bytes_of b) → m₂ ≡ sets m at (eight_of w)
@@ -37,41 +42,12 @@ word-put w m at {m₁} {m₂} {a} {b} e f p s =
     s
     ∙ ap (λ (l : List ℕ). sets l (at + 4) (bytes_of b)) p
     ∙ sym (sets-append m at (bytes_of a) (bytes_of b))
-    ∙ ap (sets m at) (ap₂ (λ (x y : ℕ). bytes_of x ++ bytes_of y) e f ∙ halves w)
+    ∙ ap (sets m at) (ap₂ (λ (x y : ℕ). bytes_of x ++ bytes_of y) e f ∙ (computed w).halves)
 
 -- a word has at most six letters: there is room for seven
-letters-most : (w : Word) → length (word_of w) ≤ 6
-letters-most Set = omega arith
-letters-most Memory = omega arith
-letters-most Window = omega arith
-letters-most Write = omega arith
-letters-most Read = omega arith
-letters-most NoRead = omega arith
-letters-most Bus = omega arith
-letters-most Fetch = omega arith
-letters-most Move = omega arith
-letters-most Fault = omega arith
-letters-most Update = omega arith
-letters-most Halt = omega arith
-letters-most Stop = omega arith
-letters-most Bad = omega arith
-
-pub spaced-most : (w : Word) → length (spaced_of w) ≤ 7
-spaced-most w = omega (arith, letters-most w, length-append (word_of w) (blank ∷ []))
+pub spaced_most : (w : Word) → length (spaced_of w) ≤ 7
+spaced_most w = omega (arith, (computed w).most, length-append (word_of w) (blank ∷ []))
 
 -- every letter is a small one
 pub letters-small : (w : Word) → each (leb 97) (word_of w) ≡ true
-letters-small Set = refl
-letters-small Memory = refl
-letters-small Window = refl
-letters-small Write = refl
-letters-small Read = refl
-letters-small NoRead = refl
-letters-small Bus = refl
-letters-small Fetch = refl
-letters-small Move = refl
-letters-small Fault = refl
-letters-small Update = refl
-letters-small Halt = refl
-letters-small Stop = refl
-letters-small Bad = refl
+letters-small w = (computed w).small

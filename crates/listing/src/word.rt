@@ -51,6 +51,7 @@ fn packed(word: Word) -> Bytes
 }
 
 // The word and its blank from `at` on, and zeros up to eight bytes; the result is the place past the blank.
+#[tactic(auto, using(crate::proofs::Words::spaced_most))]
 pub fn put_word(out: &mut [u8], at: usize, word: Word) -> usize
     requires { at + 8 ≤ length out.old }
     ensures { (result ≡ at + length (spaced_of word)) × (out.new ≡ sets out.old at (eight_of word)) }

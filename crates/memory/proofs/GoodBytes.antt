@@ -1,24 +1,24 @@
 -- Laws of `good_bytes`: every part of the good bytes answers OKAY, and the byte after them does not.
 use mathlib.Core.Path.{◌≡◌, refl, sym, ap, ◌∙◌}
 use mathlib.Core.Bool.{Bool, true, false}
-use mathlib.Core.List.{List, [], ◌∷◌}
+use mathlib.Core.List.{List, [], ◌∷◌, ◌++◌}
 use mathlib.Core.Logic.{◌⊎◌, inl, inr}
 use Prim.Native.Nat.{ℕ, ◌+◌, ◌-◌, ◌≤◌, ◌<◌}
 use native.Mathlib.Omega.{arith}
-use lib.ListN.{length, drop, length-drop}
+use lib.ListN.{length}
 use lib.Dec.{ltb}
 use borrow.Author.Tests.{lt-ltb, le-leb, ltb-true, ltb-false}
 use Rattle.kit.specs.Choice.{either}
 use Rattle.kit.proofs.Choice.{yes, no, decide, never, both-join, either-right}
 use Rattle.memory.specs.declared.window.Window.{Window}
 use Rattle.memory.specs.declared.verdict.Verdict.TheVariants.{Okay}
-use Rattle.memory.specs.Windows.{windows_of, inside, sick}
+use Rattle.memory.specs.Windows.{windows_of, window_in, inside, sick}
 use Rattle.memory.specs.Interval.{touches_of, hit}
 use Rattle.memory.specs.Verdict.{group_of}
 use Rattle.memory.specs.Good.{nearer_end, good_end, good_bytes}
 use Rattle.memory.proofs.Touch.{Touch, touch, touch-test}
 use Rattle.memory.proofs.Groups.{group-okay}
-use Rattle.memory.proofs.Flat.{window_at, windows-cons, too_few}
+use Rattle.memory.proofs.Pairs.{first-window, no-window}
 
 -- ---- one window
 
@@ -105,13 +105,13 @@ module _ (size : ℕ) (ws : List Window) (a : ℕ) where
       let k = end-less ws a size in
       group-okay size ws b n some (omega (arith, inside, k)) (unhit ws a size b (b + n) from inside)
 
--- ---- the windows of a flat slice, as a loop goes over them by two
+-- ---- the windows of a flat slice, as a loop takes them off its front
 
-pub good-end : (l : List ℕ) (i a e : ℕ) → length l ≤ i + 1 → good_end (windows_of (drop i l)) a e ≡ e
+pub good-end : (l : List ℕ) (a e : ℕ) → length l < 2 → good_end (windows_of l) a e ≡ e
 unfolding good_end
-good-end l i a e h = ap (λ (ws : List Window). good_end ws a e) (too_few (drop i l) (simp length-drop (omega arith)))
+good-end l a e h = ap (λ (ws : List Window). good_end ws a e) (no-window l h)
 
-pub good-on : (l : List ℕ) (i a e : ℕ) → i + 1 < length l
-    → good_end (windows_of (drop (i + 2) l)) a (nearer_end (window_at l i) a e) ≡ good_end (windows_of (drop i l)) a e
+pub good-on : (l p rest : List ℕ) → l ≡ p ++ rest → length p ≡ 2 → (a e : ℕ)
+    → good_end (windows_of rest) a (nearer_end (window_in p) a e) ≡ good_end (windows_of l) a e
 unfolding good_end
-good-on l i a e h = sym (ap (λ (ws : List Window). good_end ws a e) (windows-cons l i h))
+good-on l p rest taken two a e = sym (ap (λ (ws : List Window). good_end ws a e) (first-window l p rest taken two))

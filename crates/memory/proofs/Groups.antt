@@ -31,10 +31,6 @@ swap false true true z = refl
 swap false true false z = refl
 swap false false v z = refl
 
-pub either_same : (t : Bool) → t ≡ either t t
-either_same true = refl
-either_same false = refl
-
 hit-more : (ws : List Window) (a e : ℕ) → suc a < e → hit ws a e ≡ either (sick ws a) (hit ws (suc a) e)
 unfolding sick
 hit-more [] a e h = refl

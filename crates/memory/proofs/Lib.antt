@@ -1,6 +1,6 @@
 pub mod Copies
-pub mod Flat
 pub mod GoodBytes
+pub mod Pairs
 pub mod Groups
 pub mod Stores
 pub mod Touch

@@ -1,8 +1,6 @@
 -- Laws of `worse`: a verdict that two tests decide, and what an OKAY of two verdicts says of each.
 use mathlib.Core.Path.{◌≡◌, refl}
 use mathlib.Core.Bool.{Bool, true, false}
-use native.Mathlib.Omega.{arith}
-use Prim.Native.Nat.{ℕ}
 use Rattle.kit.specs.Choice.{when, either}
 use Rattle.memory.specs.declared.verdict.Verdict.{Verdict}
 use Rattle.memory.specs.declared.verdict.Verdict.TheVariants.{Okay, Slave, Decode}
@@ -26,10 +24,10 @@ worse-right-okay Slave = refl
 worse-right-okay Decode = refl
 
 slave-bad : Slave ≡ Okay → ⊥
-slave-bad e = let z : ◌≡◌ {A = ℕ} 0 1 = cc in omega arith
+slave-bad e = cc
 
 decode-bad : Decode ≡ Okay → ⊥
-decode-bad e = let z : ◌≡◌ {A = ℕ} 0 1 = cc in omega arith
+decode-bad e = cc
 
 pub worse-okay : (u v : Verdict) → worse u v ≡ Okay → (u ≡ Okay) × (v ≡ Okay)
 worse-okay Okay v e = (refl, e)

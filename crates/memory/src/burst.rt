@@ -6,7 +6,7 @@ ghost use Rattle.memory.specs.Burst.{longest_burst, copied};
 const LONGEST_BURST: usize = 4096;
 
 // Copies `count` bytes from `from` on to `to` on; the two parts may overlap. The bytes go through `held`, with nothing
-// between the two copies, so that the compiler makes one move of both.
+// between the two copies, so that the compiler makes one move of both; of std's `copy_within` it makes a loop a direction.
 pub fn copy(memory: &mut [u8], from: usize, to: usize, count: usize)
     requires { (from + count ≤ length memory.old) × (to + count ≤ length memory.old) × (count ≤ longest_burst) }
     ensures { memory.new ≡ copied memory.old from to count }

@@ -3,7 +3,7 @@ ghost use Rattle.std.specs.Prelude.{◌≡◌};
 ghost use Rattle.memory.specs.Windows.{windows_of};
 ghost use Rattle.memory.specs.Good.{nearer_end, good_bytes};
 
-use crate::window::{Window, touches};
+use crate::window::{Window, touches, window_in};
 
 // The end of the good bytes from `start` on: a window that has one of those before `end` brings it to its own start.
 fn nearer_end(window: Window, start: u64, end: u64) -> u64
@@ -21,14 +21,9 @@ pub fn good_bytes(size: usize, windows: &[u32], start: u64) -> u64
     ensures { result ≡ good_bytes size (windows_of windows.now) start }
 {
     let mut end = size as u64;
-    let mut i = 0;
-    while i + 1 < windows.len() {
-        let window = Window {
-            start: windows[i],
-            length: windows[i + 1],
-        };
+    for pair in windows.chunks_exact(2) {
+        let window = window_in(pair);
         end = nearer_end(window, start, end);
-        i += 2;
     }
-    if start < end { end - start } else { 0 }
+    end.saturating_sub(start)
 }

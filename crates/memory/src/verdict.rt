@@ -6,10 +6,10 @@ ghost use Rattle.memory.specs.Interval.{hit};
 ghost use Rattle.memory.specs.Windows.{windows_of};
 ghost use Rattle.memory.specs.Verdict.{group_of, pair_of};
 
-use crate::window::{Window, meets};
+use crate::window::{meets, window_in};
 use kit::logic::either;
 
-#[derive(Clone, Copy)]
+#[derive(Clone, Copy, PartialEq, Eq, PartialOrd, Ord)]
 pub enum Verdict {
     Okay,
     Slave,
@@ -23,40 +23,16 @@ fn any_meets(windows: &[u32], first: u32, second: u32, bytes: u32) -> bool
     ensures { result ≡ either_of (hit (windows_of windows.now) first (first + bytes)) (hit (windows_of windows.now) second (second + bytes)) }
 {
     let mut met = false;
-    let mut i = 0;
-    while i + 1 < windows.len() {
-        let window = Window {
-            start: windows[i],
-            length: windows[i + 1],
-        };
+    for pair in windows.chunks_exact(2) {
+        let window = window_in(pair);
         let here = either(meets(window, first, bytes), meets(window, second, bytes));
         met = either(met, here);
-        i += 2;
     }
     met
 }
 
-// The verdict of the `bytes` bytes from `start` on, in a memory of `size` bytes.
-pub fn judge(size: usize, windows: &[u32], start: u32, bytes: u32) -> Verdict
-    ensures { result ≡ group_of size (windows_of windows.now) start bytes }
-{
-    if bytes == 0 {
-        return Verdict::Okay;
-    }
-    let count = bytes as usize;
-    if size < count {
-        return Verdict::Decode;
-    }
-    if size - count < start as usize {
-        return Verdict::Decode;
-    }
-    if any_meets(windows, start, start, bytes) {
-        return Verdict::Slave;
-    }
-    Verdict::Okay
-}
-
-// The worse verdict of two groups of `bytes` bytes, from `first` and from `second` on: a move's source and destination.
+// The worse verdict of two groups of `bytes` bytes, from `first` and from `second` on, in a memory of `size` bytes: a move's
+// source and destination.
 pub fn judge_pair(size: usize, windows: &[u32], first: u32, second: u32, bytes: u32) -> Verdict
     ensures { result ≡ pair_of size (windows_of windows.now) first second bytes }
 {
@@ -78,4 +54,11 @@ pub fn judge_pair(size: usize, windows: &[u32], first: u32, second: u32, bytes: 
         return Verdict::Slave;
     }
     Verdict::Okay
+}
+
+// The verdict of one group, as of two that are the same: compiled, it holds each window against the group once.
+pub fn judge(size: usize, windows: &[u32], start: u32, bytes: u32) -> Verdict
+    ensures { result ≡ group_of size (windows_of windows.now) start bytes }
+{
+    judge_pair(size, windows, start, start, bytes)
 }

@@ -10,11 +10,14 @@ use lib.Dec.{eqb, lit<}
 use borrow.Author.Tests.{eq-eqb, ne_eqb, eqb-true}
 use Rattle.kit.specs.Settings.{among}
 use Rattle.kit.proofs.Choice.{yes, no, cases, never}
-use Rattle.kit.proofs.Numbers.{number-tells}
+use Rattle.std.specs.Prelude.{Result, Ok, Err, ⊤}
+use Rattle.kit.specs.Answer.{number_of}
+use Rattle.kit.specs.declared.answer.Refusal.{Refusal}
+use Rattle.kit.proofs.Numbers.{number-tells, refusal-tells}
 use Rattle.monitor.specs.declared.clock.Clock.{Clock}
 use Rattle.monitor.specs.declared.monitor.Monitor.{Monitor}
 use Rattle.monitor.specs.declared.monitor.Clocked.{Clocked}
-use Rattle.monitor.specs.Monitor.{fresh_of, flags_of, snapshot_of, clock_of, lowest_of, Seen, seen}
+use Rattle.monitor.specs.Monitor.{fresh_of, flags_of, snapshot_of, clock_of, lowest_of, seen}
 use Rattle.monitor.specs.Claims.{Up, Down, after, all_out_of_reset, flag_numbers, Claims, Unique}
 use Rattle.monitor.proofs.Bits.{bit-none, ones-standing, trailing-up, trailing-first}
 use Rattle.monitor.proofs.Tables.{raise-bit, raised, flags-cases, raised-le, raised-up, raised-known, raised_lt}
@@ -128,13 +131,15 @@ claims = record {
 one {ℓ} : {A : Type ℓ} {x r s : A} → r ≡ x → s ≡ x → r ≡ s
 one p q = p ∙ sym q
 
-one-clocked : (r s : Clocked) → seen r ≡ seen s → r ≡ s
-one-clocked r s e =
-    λ i. record {
-      answer = number-tells {a = r.answer} {b = s.answer} (ap (λ (x : Seen). x.number) e) i;
-      count = (e i).count;
-      monitor = (e i).monitor;
-    }
+-- done has the number 0, and no refusal has
+done : (refusal : Refusal) → 0 ≡ number_of refusal → ⊥
+done refusal e = let no-refusal : ◌≡◌ {A = Result ⊤ Refusal} (Ok tt) (Err refusal) = number-tells {a = Ok tt} {b = Err refusal} e in cc
+
+one-clocked : (m : Monitor) (r s : Result Clocked Refusal) → seen m r ≡ seen m s → r ≡ s
+one-clocked m (Ok a) (Ok b) e = λ i. Ok (record { count = (e i).count; monitor = (e i).monitor })
+one-clocked m (Ok a) (Err b) e = absurd (done b (λ i. (e i).number))
+one-clocked m (Err a) (Ok b) e = absurd (done a (λ i. (sym e i).number))
+one-clocked m (Err a) (Err b) e = ap Err (refusal-tells (λ i. (e i).number))
 
 pub unique : Unique
 unique = record {
@@ -142,5 +147,5 @@ unique = record {
   fresh = λ r s. one;
   count = λ m r s. one;
   lowest = λ m r s. one;
-  bus-clock = λ m width beats c r s p q. one-clocked r s (one p q);
+  bus-clock = λ m width beats c r s p q. one-clocked m r s (one p q);
 }

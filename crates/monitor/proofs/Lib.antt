@@ -1,6 +1,4 @@
-pub mod Shifts
 pub mod Raise
-pub mod Range
 pub mod Bits
 pub mod Tables
 pub mod Claims

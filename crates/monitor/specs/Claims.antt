@@ -1,7 +1,8 @@
 -- What the definitions of this crate have to imply: proved in proofs/Claims.antt.
-use Rattle.std.specs.Prelude.{◌≡◌, Bool, true, false, ◌&&◌, List, [], ◌∷◌, ℕ, zero, suc, ◌+◌, ◌^◌, ◌<◌, max, eqb}
+use Rattle.std.specs.Prelude.{◌≡◌, Result, Bool, true, false, ◌&&◌, List, [], ◌∷◌, ℕ, zero, suc, ◌+◌, ◌^◌, ◌<◌, max, eqb}
 use Rattle.kit.specs.Choice.{when}
 use Rattle.kit.specs.Settings.{among}
+use Rattle.kit.specs.declared.answer.Refusal.{Refusal}
 use Rattle.monitor.specs.declared.clock.Clock.{Clock}
 use Rattle.monitor.specs.declared.monitor.Monitor.{Monitor}
 use Rattle.monitor.specs.declared.monitor.Clocked.{Clocked}
@@ -74,5 +75,5 @@ pub record Unique : Type 0 where
   pub fresh : (r s : Monitor) → r ≡ fresh_of → s ≡ fresh_of → r ≡ s
   pub count : (m : Monitor) (r s : ℕ) → r ≡ count_of m → s ≡ count_of m → r ≡ s
   pub lowest : (m : Monitor) (r s : ℕ) → r ≡ lowest_of m → s ≡ lowest_of m → r ≡ s
-  pub bus-clock : (m : Monitor) (width beats : ℕ) (c : Clock) (r s : Clocked) → seen r ≡ bus_clock_of m width beats c
-      → seen s ≡ bus_clock_of m width beats c → r ≡ s
+  pub bus-clock : (m : Monitor) (width beats : ℕ) (c : Clock) (r s : Result Clocked Refusal) → seen m r ≡ bus_clock_of m width beats c
+      → seen m s ≡ bus_clock_of m width beats c → r ≡ s

@@ -1,8 +1,9 @@
 -- RULES.md, "Bus clocks": the monitor's next self, what it reports, and the answers 1 and 13 of a bus clock.
-use Rattle.std.specs.Prelude.{ℕ, false, ◌&&◌, not, eqb}
+use Rattle.std.specs.Prelude.{ℕ, Result, Ok, Err, false, ◌&&◌, not, eqb}
 use Rattle.std.specs.Int.Count.{ones, count_trailing_zeros}
 use Rattle.kit.specs.Choice.{when}
 use Rattle.kit.specs.Answer.{number_of}
+use Rattle.kit.specs.declared.answer.Refusal.{Refusal}
 use Rattle.kit.specs.Settings.{legal_settings}
 use Rattle.monitor.specs.declared.clock.Clock.{Clock}
 use Rattle.monitor.specs.declared.monitor.Monitor.{Monitor}
@@ -45,12 +46,14 @@ pub record Seen : Type 0 where
   pub count : ℕ
   pub monitor : Monitor
 
-abbrev pub seen : Clocked → Seen
-seen r = record { number = number_of r.answer; count = r.count; monitor = r.monitor }
-
 -- an answer but 0: the count is 0, and the monitor is unchanged
 abbrev pub refused : ℕ → Monitor → Seen
 refused n m = record { number = n; count = 0; monitor = m }
+
+-- what a monitor's bus clock handed back: 0 is done
+abbrev pub seen : Monitor → Result Clocked Refusal → Seen
+seen m (Ok c) = record { number = 0; count = c.count; monitor = c.monitor }
+seen m (Err refusal) = refused (number_of refusal) m
 
 -- answer 0: how many flags are up now, and the monitor's next self
 abbrev pub taken : Monitor → Seen

@@ -1,8 +1,9 @@
 // RULES.md, "Bus clocks", and PG101's status bits: the table of flags, a line each. 40 and 51 have no check.
-ghost use Rattle.std.specs.Prelude.{◌≡◌, ◌<◌};
+ghost use Rattle.std.specs.Prelude.{◌≡◌};
 ghost use Rattle.kit.specs.Choice.{when};
 ghost use Rattle.monitor.specs.Flags.{valid_flags, held_flags};
 
+use crate::burst::Burst;
 use crate::clock::Clock;
 use crate::rules;
 
@@ -15,17 +16,18 @@ fn choose(broken: bool, raised: u64, kept: u64) -> u64
 }
 
 // What an address on the bus breaks by itself.
-pub fn valid_flags(flags: u64, width: u32, before: Clock, clock: Clock) -> u64
-    requires { (clock.size < 8) × (clock.length < 256) }
-    ensures { result ≡ valid_flags flags width before clock }
+#[tactic(auto, unfolding(crate::specs::Flags::valid_flags))]
+pub fn valid_flags(flags: u64, width: u32, before: Clock, burst: Burst) -> u64
+    ensures { result ≡ valid_flags flags width before burst.clock }
 {
-    let raised = choose(rules::page_crossed(clock), 1u64 << 37, 0);
-    let raised = choose(rules::wrap_unaligned(clock), raised | 1u64 << 38, raised);
+    let clock = burst.clock;
+    let raised = choose(rules::page_crossed(burst), 1u64 << 37, 0);
+    let raised = choose(rules::wrap_unaligned(burst), raised | 1u64 << 38, raised);
     let raised = choose(clock.burst == 3, raised | 1u64 << 39, raised);
     let raised = choose(rules::cache_wrong(clock), raised | 1u64 << 41, raised);
-    let raised = choose(rules::fixed_long(clock), raised | 1u64 << 42, raised);
-    let raised = choose(rules::wrap_beats(clock), raised | 1u64 << 43, raised);
-    let raised = choose(rules::size_above(width, clock), raised | 1u64 << 44, raised);
+    let raised = choose(rules::fixed_long(burst), raised | 1u64 << 42, raised);
+    let raised = choose(rules::wrap_beats(burst), raised | 1u64 << 43, raised);
+    let raised = choose(rules::size_above(width, burst), raised | 1u64 << 44, raised);
     let raised = choose(!before.aresetn, raised | 1u64 << 45, raised);
     if !clock.valid {
         return flags;
@@ -34,6 +36,7 @@ pub fn valid_flags(flags: u64, width: u32, before: Clock, clock: Clock) -> u64
 }
 
 // What has to stay as it was while an address waits for its ready.
+#[tactic(auto, unfolding(crate::specs::Flags::held_flags))]
 pub fn held_flags(flags: u64, before: Clock, clock: Clock) -> u64
     ensures { result ≡ held_flags flags before clock }
 {

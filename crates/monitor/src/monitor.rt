@@ -1,12 +1,11 @@
 // RULES.md, "Bus clocks": the monitor takes one clock and hands back its next self.
-ghost use Rattle.std.specs.Prelude.{◌≡◌, true};
-ghost use Rattle.kit.specs.Answer.{number_of};
-ghost use Rattle.monitor.specs.Clock.{in_range};
-ghost use Rattle.monitor.specs.Monitor.{fresh_of, flags_of, snapshot_of, clock_of, count_of, lowest_of, seen, refused, bus_clock_of};
+ghost use Rattle.std.specs.Prelude.{◌≡◌};
+ghost use Rattle.monitor.specs.Monitor.{fresh_of, flags_of, snapshot_of, clock_of, count_of, lowest_of, seen, bus_clock_of};
 
+use crate::burst::Burst;
 use crate::clock::Clock;
 use crate::flags;
-use kit::answer::Answer;
+use kit::answer::Refusal;
 use kit::settings;
 
 // Flag n is bit n of `flags`; `before` is the clock before.
@@ -20,7 +19,6 @@ pub struct Monitor {
 // What a bus clock hands back: how many flags are up, and the monitor's next self.
 #[derive(Clone, Copy)]
 pub struct Clocked {
-    pub answer: Answer,
     pub count: u32,
     pub monitor: Monitor,
 }
@@ -52,19 +50,20 @@ impl Monitor {
     }
 
     // A clock in reset clears all flags; out of reset they stay set.
-    fn flags_after(self, width: u32, clock: Clock) -> u64
-        requires { in_range clock ≡ true }
-        ensures { result ≡ flags_of self width clock }
+    #[tactic(auto, unfolding(crate::specs::Monitor::flags_of))]
+    fn flags_after(self, width: u32, burst: Burst) -> u64
+        ensures { result ≡ flags_of self width burst.clock }
     {
-        if !clock.aresetn {
+        if !burst.clock.aresetn {
             return 0;
         }
         let before = self.before;
-        let raised = flags::valid_flags(self.flags, width, before, clock);
-        flags::held_flags(raised, before, clock)
+        let raised = flags::valid_flags(self.flags, width, before, burst);
+        flags::held_flags(raised, before, burst.clock)
     }
 
     // The flags of a clock that takes them from none to any.
+    #[tactic(auto, unfolding(crate::specs::Monitor::snapshot_of))]
     fn snapshot_after(self, flags: u64, clock: Clock) -> u64
         ensures { result ≡ snapshot_of self flags clock }
     {
@@ -77,16 +76,14 @@ impl Monitor {
         self.snapshot
     }
 
-    // `bus_clock` has judged the fields: out of range, the shifts by the size have no meaning.
-    fn clock(mut self, width: u32, clock: Clock) -> Monitor
-        requires { in_range clock ≡ true }
-        ensures { result ≡ clock_of self width clock }
+    fn clock(mut self, width: u32, burst: Burst) -> Monitor
+        ensures { result ≡ clock_of self width burst.clock }
     {
-        let flags = self.flags_after(width, clock);
-        let snapshot = self.snapshot_after(flags, clock);
+        let flags = self.flags_after(width, burst);
+        let snapshot = self.snapshot_after(flags, burst.clock);
         self.flags = flags;
         self.snapshot = snapshot;
-        self.before = clock;
+        self.before = burst.clock;
         self
     }
 
@@ -94,7 +91,7 @@ impl Monitor {
     pub fn count(self) -> u32
         ensures { result ≡ count_of self }
     {
-        u64::count_ones(self.flags)
+        self.flags.count_ones()
     }
 
     // The number of the lowest flag that is up, 0 where there is none.
@@ -104,36 +101,24 @@ impl Monitor {
         if self.flags == 0 {
             return 0;
         }
-        u64::trailing_zeros(self.flags)
+        self.flags.trailing_zeros()
     }
 }
 
-// Beside an answer that is not 0 the count is 0 and the monitor as it was.
-fn refuse(answer: Answer, monitor: Monitor) -> Clocked
-    ensures { seen result ≡ refused (number_of answer) monitor }
-{
-    Clocked {
-        answer,
-        count: 0,
-        monitor,
-    }
-}
-
-// One bus clock, or answer 1 or 13; a refused clock is no clock.
-pub fn bus_clock(monitor: Monitor, width: u32, beats: u32, clock: Clock) -> Clocked
-    ensures { seen result ≡ bus_clock_of monitor width beats clock }
+// One bus clock, or answer 1 or 13; a refused clock is no clock: the monitor stays as it was.
+pub fn bus_clock(monitor: Monitor, width: u32, beats: u32, clock: Clock) -> Result<Clocked, Refusal>
+    ensures { seen monitor result ≡ bus_clock_of monitor width beats clock }
 {
     if !settings::legal(settings::Settings { width, beats }) {
-        return refuse(Answer::Settings, monitor);
+        return Err(Refusal::Settings);
     }
     if !clock.in_range() {
-        return refuse(Answer::Clock, monitor);
+        return Err(Refusal::Clock);
     }
-    let next = monitor.clock(width, clock);
+    let next = monitor.clock(width, Burst { clock });
     let count = next.count();
-    Clocked {
-        answer: Answer::Done,
+    Ok(Clocked {
         count,
         monitor: next,
-    }
+    })
 }

@@ -1,25 +1,23 @@
 // RULES.md, "Bus clocks": the tests of flags 37 to 44 that are more than one comparison.
-ghost use Rattle.std.specs.Prelude.{◌≡◌, ◌<◌};
+ghost use Rattle.std.specs.Prelude.{◌≡◌};
 ghost use Rattle.monitor.specs.Rules.{page_crossed, wrap_unaligned, cache_wrong, fixed_long, wrap_count, wrap_beats, size_above};
 
-use crate::burst;
+use crate::burst::Burst;
 use crate::clock::Clock;
 
 const PAGE: u64 = 4096;
 
-pub fn page_crossed(clock: Clock) -> bool
-    requires { (clock.size < 8) × (clock.length < 256) }
-    ensures { result ≡ page_crossed clock }
+pub fn page_crossed(burst: Burst) -> bool
+    ensures { result ≡ page_crossed burst.clock }
 {
-    (clock.burst == 1) & (burst::last_byte(clock) / PAGE != clock.address as u64 / PAGE)
+    (burst.clock.burst == 1) & (burst.last_byte() / PAGE != burst.clock.address as u64 / PAGE)
 }
 
 // An address is a multiple of 2^size where rounding down leaves it.
-pub fn wrap_unaligned(clock: Clock) -> bool
-    requires { clock.size < 8 }
-    ensures { result ≡ wrap_unaligned clock }
+pub fn wrap_unaligned(burst: Burst) -> bool
+    ensures { result ≡ wrap_unaligned burst.clock }
 {
-    (clock.burst == 2) & (burst::rounded(clock) != clock.address as u64)
+    (burst.clock.burst == 2) & (burst.rounded() != burst.clock.address as u64)
 }
 
 pub fn cache_wrong(clock: Clock) -> bool
@@ -28,32 +26,26 @@ pub fn cache_wrong(clock: Clock) -> bool
     (clock.cache / 2 % 2 == 0) & ((clock.cache / 4 % 2 == 1) | (clock.cache / 8 % 2 == 1))
 }
 
-pub fn fixed_long(clock: Clock) -> bool
-    requires { clock.length < 256 }
-    ensures { result ≡ fixed_long clock }
+pub fn fixed_long(burst: Burst) -> bool
+    ensures { result ≡ fixed_long burst.clock }
 {
-    (clock.burst == 0) & (16 < burst::beats(clock))
+    (burst.clock.burst == 0) & (16 < burst.beats())
 }
 
 fn wrap_count(beats: u32) -> bool
     ensures { result ≡ wrap_count beats }
 {
-    match beats {
-        2 | 4 | 8 | 16 => true,
-        _ => false,
-    }
+    matches!(beats, 2 | 4 | 8 | 16)
 }
 
-pub fn wrap_beats(clock: Clock) -> bool
-    requires { clock.length < 256 }
-    ensures { result ≡ wrap_beats clock }
+pub fn wrap_beats(burst: Burst) -> bool
+    ensures { result ≡ wrap_beats burst.clock }
 {
-    (clock.burst == 2) & !wrap_count(burst::beats(clock))
+    (burst.clock.burst == 2) & !wrap_count(burst.beats())
 }
 
-pub fn size_above(width: u32, clock: Clock) -> bool
-    requires { clock.size < 8 }
-    ensures { result ≡ size_above width clock }
+pub fn size_above(width: u32, burst: Burst) -> bool
+    ensures { result ≡ size_above width burst.clock }
 {
-    width < 1u32 << clock.size
+    width < 1u32 << burst.clock.size
 }

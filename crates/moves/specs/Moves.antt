@@ -1,7 +1,8 @@
 -- RULES.md, "Descriptor and steps", move: what bursts of a transfer, moved on their own, are to an engine in its midst.
-use Rattle.std.specs.Prelude.{◌≡◌, ℕ, ◌+◌, min, Bool, true, false, List, eqb}
+use Rattle.std.specs.Prelude.{◌≡◌, ℕ, ◌+◌, min, Bool, true, false, List, eqb, Option, Some, None}
 use Rattle.kit.specs.Choice.{when}
 use Rattle.kit.specs.declared.settings.Settings.{Settings}
+use Rattle.cut.specs.declared.Burst.{Burst}
 use Rattle.memory.specs.declared.window.Window.{Window}
 use Rattle.memory.specs.Good.{good_bytes}
 use Rattle.state.specs.declared.engine.Engine.{Engine}
@@ -12,8 +13,6 @@ use Rattle.steps.specs.declared.event.Event.{Event}
 use Rattle.steps.specs.declared.event.Event.TheVariants.{Move as MoveEvent}
 use Rattle.steps.specs.Step.{AfterAdvance, reads_at, writes_at, continue_or_finish_of, advance_of}
 use Rattle.moves.specs.declared.glide.Glided.{Glided}
-use Rattle.moves.specs.declared.move_on.MovedOn.{MovedOn}
-use Rattle.moves.specs.declared.move_on.MovedOn.TheVariants.{Moved, Nothing}
 
 -- the transfer with `moved` bytes moved
 abbrev pub moved_to : Transfer → ℕ → Transfer
@@ -26,12 +25,12 @@ pub record Moving (settings : Settings) (reads writes : Bool) (t : Transfer) (s 
   pub destination : s.control.keyholewrite ≡ writes
   pub phase : s.phase ≡ Move t
 
--- a burst: the step of every such engine whose sides both increment moves it, and leaves the engine as it was but for the bytes moved. Nothing: the memory is as it was
-abbrev pub MovesOn : Settings → Transfer → List Window → List ℕ → MovedOn → List ℕ → Type 0
-MovesOn settings t windows m (Moved b) after =
+-- a burst: the step of every such engine whose sides both increment moves it, and leaves the engine as it was but for the bytes moved. None: the memory is as it was
+abbrev pub MovesOn : Settings → Transfer → List Window → List ℕ → Option Burst → List ℕ → Type 0
+MovesOn settings t windows m (Some b) after =
     (s : Engine) → Moving settings false false t s
     → advance_of s m windows ≡ record { event = MoveEvent b; engine = with_phase s (Move (moved_to t (t.moved + b.bytes))); memory = after }
-MovesOn settings t windows m Nothing after = after ≡ m
+MovesOn settings t windows m None after = after ≡ m
 
 -- the bytes that are good both where the transfer's next burst is read and where it is written, if both sides increment
 abbrev pub good_ahead : ℕ → List Window → Transfer → ℕ

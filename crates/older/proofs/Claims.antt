@@ -8,7 +8,7 @@ use lib.Dec.{eqb, leb}
 use lib.ListN.{length, length-append}
 use borrow.Author.Tests.{lt-ltb, le-leb, leb-true, eqb-true}
 use Rattle.kit.specs.Choice.{when, both}
-use Rattle.kit.specs.declared.answer.Answer.TheVariants as answers
+use Rattle.kit.specs.declared.answer.Refusal.TheVariants as answers
 use Rattle.kit.specs.Answer.{number_of}
 use Rattle.kit.specs.Settings.{legal_width, legal_beats, legal_settings}
 use Rattle.kit.specs.Word.{half_at, word_at}
@@ -16,8 +16,8 @@ use Rattle.kit.proofs.Choice.{yes, no, both_left, both_right, both-join, never}
 use Rattle.listing.specs.declared.line.Line.{Line}
 use Rattle.listing.specs.Line.{header_of}
 use Rattle.record.specs.declared.reading.Body.TheVariants.{Settings}
-use Rattle.record.specs.declared.reading.Reading.{Reading}
-use Rattle.record.specs.declared.reading.Reading.TheVariants.{Found, Refused}
+use Rattle.record.specs.Reading.{Reading}
+use Rattle.std.specs.Prelude.{Some, None}
 use Rattle.record.specs.Mark.{CF, letters, kind_of}
 use Rattle.record.specs.Reading.{found_of, body_of, reading_as, reading_of}
 use Rattle.record.specs.Starts.{settings_mark, settings_at, starts_with, starts_one, starts_two, older_settings, converted_of}
@@ -143,7 +143,7 @@ module _ (t : List ℕ) (marked : starts_one t ≡ true) where
     bad-on beats answer at = ap (λ (ls : List Line). bad_line_of 0 answer (0 + 0) ∷ ls) (lines-stop k 0 t (replay_as (with_mode (before beats) Over) at lent []) refl)
 
     -- a CF has its own settings, and no sequence number is below it
-    by-settings : (n width beats : ℕ) → by 64 (Found (record { sequence = n; body = Settings false width beats }) 10) ≡ by 16 (Found (record { sequence = n; body = Settings false width beats }) 10)
+    by-settings : (n width beats : ℕ) → by 64 (Some ((record { sequence = n; body = Settings false width beats }), 10)) ≡ by 16 (Some ((record { sequence = n; body = Settings false width beats }), 10))
     unfolding apply_of
     by-settings n width beats =
         ap (on k t) (sym (no _ (both-no (leb n 0)) refl)) ∙ go (legal_settings width beats) ∙ ap (on k t) (no _ (both-no (leb n 0)) refl)
@@ -164,7 +164,7 @@ module _ (t : List ℕ) (marked : starts_one t ≡ true) where
     by_first : by 64 (reading_of t 0 true false) ≡ by 16 (reading_of t 0 true false)
     by_first = ap (by 64) read-settings ∙ go (leb (0 + 10) (length t)) ∙ ap (by 16) (sym read-settings)
       where
-        go : (v : Bool) → by 64 (when v (found_of t 0 10 (body_of t 0 CF)) Refused) ≡ by 16 (when v (found_of t 0 10 (body_of t 0 CF)) Refused)
+        go : (v : Bool) → by 64 (when v (found_of t 0 10 (body_of t 0 CF)) None) ≡ by 16 (when v (found_of t 0 10 (body_of t 0 CF)) None)
         go true = by-settings (word_at t 2) (half_at t 6) (half_at t 8)
         go false = bad-on 64 (number_of answers.Record) 0 ∙ sym (bad-on 16 (number_of answers.Record) 0)
 

@@ -12,7 +12,7 @@ use Rattle.kit.specs.Choice.{when, both, either}
 use Rattle.kit.specs.Limits.{most_windows}
 use Rattle.kit.specs.Settings.{legal_settings}
 use Rattle.kit.specs.Word.{half_at}
-use Rattle.kit.specs.declared.answer.Answer.TheVariants as answers
+use Rattle.kit.specs.declared.answer.Refusal.TheVariants as answers
 use Rattle.kit.specs.Answer.{number_of}
 use Rattle.kit.proofs.Choice.{yes, no, cases, decide, never, both_left, both_right, both-join}
 use Rattle.listing.specs.declared.line.Line.{Line}
@@ -21,8 +21,8 @@ use Rattle.monitor.specs.Monitor.{bus_clock_of}
 use Rattle.record.specs.declared.reading.Body.{Body}
 use Rattle.record.specs.declared.reading.Body.TheVariants.{Settings, Memory, Window, Write, Read, Steps, Astray, Clock}
 use Rattle.record.specs.declared.reading.Record.{Record}
-use Rattle.record.specs.declared.reading.Reading.{Reading}
-use Rattle.record.specs.declared.reading.Reading.TheVariants.{Found, Refused}
+use Rattle.record.specs.Reading.{Reading}
+use Rattle.std.specs.Prelude.{Some, None}
 use Rattle.record.specs.Mark.{Kind, CF, C2, MM, SW, WR, RD, ST, AR, WR2, RD2, ST2, unknown, letters, kind_of}
 use Rattle.record.specs.Reading.{engine_there, body_of, found_of, reading_as, reading_of}
 use Rattle.record.specs.Starts.{settings_at, starts_one, starts_two}
@@ -110,10 +110,10 @@ kind-one m n =
     (λ _. cases P (eqb m (letters 83 84)) (λ _. refl)
     (λ _. cases P (eqb m (letters 65 82)) (λ _. refl) (λ _. refl))))))))
 
-former-one : (s : List ℕ) (at : ℕ) (first : Bool) (r : Record) (n : ℕ) → former_reading s at first ≡ Found r n → sets_two r.body ≡ false
+former-one : (s : List ℕ) (at : ℕ) (first : Bool) (r : Record) (n : ℕ) → former_reading s at first ≡ Some (r, n) → sets_two r.body ≡ false
 former-one s at first r n = go (eqb (half_at s at) (letters 67 50)) refl
   where
-    go : (v : Bool) → eqb (half_at s at) (letters 67 50) ≡ v → when v Refused (reading_of s at first false) ≡ Found r n → sets_two r.body ≡ false
+    go : (v : Bool) → eqb (half_at s at) (letters 67 50) ≡ v → when v None (reading_of s at first false) ≡ Some (r, n) → sets_two r.body ≡ false
     go true e f = absurd (impossible (cc))
     go false e f = ap sets_two (whole s at first false r n f).body_is ∙ body-one s at (kind_of (half_at s at)) (kind-one (half_at s at) e)
 
@@ -138,8 +138,8 @@ apply-only s n position input at lent (Clock bits clock) one e =
 
 record-only : (s : Session) (position : ℕ) (input : List ℕ) (at : ℕ) (lent : Lent) (first : Bool) (v : Reading) → former_reading input at first ≡ v → s.chosen ≡ Only
     → (record_by s position input at lent v).effect.session.chosen ≡ Only
-record-only s position input at lent first Refused f e = e
-record-only s position input at lent first (Found r n) f e =
+record-only s position input at lent first None f e = e
+record-only s position input at lent first (Some (r, n)) f e =
     cases (λ (x : Turn). x.effect.session.chosen ≡ Only) (stale_of s.sequence r.sequence r.body) (λ _. e)
     (λ _. apply-only s r.sequence position input at lent r.body (former-one input at first r n f) e)
 
@@ -155,15 +155,15 @@ module _ (t : List ℕ) (one : starts_two t ≡ false) where
   unfolding reading_of kind_of
   reading-former at = go (eqb (half_at t at) (letters 67 50)) refl
     where
-      late : (n : ℕ) → eqb (half_at t n) (letters 67 50) ≡ true → reading_as t n (eqb (0 + n) 0) C2 ≡ Refused
+      late : (n : ℕ) → eqb (half_at t n) (letters 67 50) ≡ true → reading_as t n (eqb (0 + n) 0) C2 ≡ None
       late zero e = short (leb (0 + 10) (length t)) refl
         where
-          short : (v : Bool) → leb (0 + 10) (length t) ≡ v → when v (found_of t 0 10 (body_of t 0 C2)) Refused ≡ Refused
+          short : (v : Bool) → leb (0 + 10) (length t) ≡ v → when v (found_of t 0 10 (body_of t 0 C2)) None ≡ None
           short true f = absurd (never (sym one ∙ both-join (le-leb 2 (length t) (omega (arith, leb-true (0 + 10) (length t) f))) e))
           short false f = refl
-      late (suc n) e = ap (λ (v : Bool). when v (when (leb (suc n + 10) (length t)) (found_of t (suc n) 10 (body_of t (suc n) C2)) Refused) Refused) (ne_eqb (0 + suc n) 0 (λ z. omega (arith, z)))
+      late (suc n) e = ap (λ (v : Bool). when v (when (leb (suc n + 10) (length t)) (found_of t (suc n) 10 (body_of t (suc n) C2)) None) None) (ne_eqb (0 + suc n) 0 (λ z. omega (arith, z)))
 
-      go : (v : Bool) → eqb (half_at t at) (letters 67 50) ≡ v → reading_of t at (eqb (0 + at) 0) false ≡ when v Refused (reading_of t at (eqb (0 + at) 0) false)
+      go : (v : Bool) → eqb (half_at t at) (letters 67 50) ≡ v → reading_of t at (eqb (0 + at) 0) false ≡ when v None (reading_of t at (eqb (0 + at) 0) false)
       go true e = ap (λ (m : ℕ). reading_as t at (eqb (0 + at) 0) (kind_of m)) (eqb-true (half_at t at) (letters 67 50) e) ∙ late at e
       go false e = refl
 
@@ -237,13 +237,13 @@ module _ (t : List ℕ) (two : starts_two t ≡ true) where
       let k : ℕ = most_turns * length t - 1 in
       let turns : most_turns * length t ≡ suc k = omega (arith, long) in
       let r = silent 64 in
-      let read : former_reading t 0 true ≡ Refused = sym (yes _ marked refl) in
+      let read : former_reading t 0 true ≡ None = sym (yes _ marked refl) in
       sym (no [] (ne_eqb (length t) 0 (λ z. omega (arith, long, z))) refl)
       ∙ ap (λ (v : Bool). opening_lines start_of v ++ former_from (most_turns * length t) t r) other
       ∙ ap (λ (ls : List Line). settings_line_of 0 4 64 ∷ ls)
       (ap (λ (j : ℕ). former_from j t r) turns ∙ former-turn k t r (lt-ltb 0 (length t - 0) (omega (arith, long)))
       ∙ ap (λ (v : Reading). record_lines (record_by r.session (0 + 0) t 0 r.lent v).effect ++ former_from k t (cleared (record_on r (record_by r.session (0 + 0) t 0 r.lent v)))) read
-      ∙ ap (λ (ls : List Line). bad_line_of 0 (number_of answers.Record) 0 ∷ ls) (former-stop k t (cleared (record_on r (record_by r.session (0 + 0) t 0 r.lent Refused))) refl))
+      ∙ ap (λ (ls : List Line). bad_line_of 0 (number_of answers.Record) 0 ∷ ls) (former-stop k t (cleared (record_on r (record_by r.session (0 + 0) t 0 r.lent None))) refl))
 
 pub former : Former
 former = record {

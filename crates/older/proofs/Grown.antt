@@ -12,7 +12,7 @@ use Rattle.kit.specs.Choice.{when, both}
 use Rattle.kit.specs.Limits.{most_windows}
 use Rattle.kit.specs.Settings.{legal_settings}
 use Rattle.kit.specs.Word.{half_at}
-use Rattle.kit.specs.declared.answer.Answer.TheVariants as answers
+use Rattle.kit.specs.declared.answer.Refusal.TheVariants as answers
 use Rattle.kit.specs.Answer.{number_of}
 use Rattle.kit.proofs.Choice.{yes, no, cases, decide}
 use Rattle.listing.specs.declared.line.Line.{Line}
@@ -21,8 +21,8 @@ use Rattle.monitor.specs.Monitor.{bus_clock_of}
 use Rattle.reads.specs.Read.{read_of}
 use Rattle.record.specs.declared.reading.Body.{Body}
 use Rattle.record.specs.declared.reading.Body.TheVariants.{Settings, Memory, Window, Write, Read, Steps, Astray, Clock}
-use Rattle.record.specs.declared.reading.Reading.{Reading}
-use Rattle.record.specs.declared.reading.Reading.TheVariants.{Found, Refused}
+use Rattle.record.specs.Reading.{Reading}
+use Rattle.std.specs.Prelude.{Some, None}
 use Rattle.record.specs.Mark.{Kind, CF, C2, MM, SW, WR, RD, ST, AR, unknown, letters, kind_of, of_trace}
 use Rattle.record.specs.Reading.{size_of, reading_as, reading_of}
 use Rattle.record.proofs.Readings.{short}
@@ -93,8 +93,8 @@ module _ (s : Session) (d p : ℕ) (input : List ℕ) (at : ℕ) (lent : Lent) w
       ap (λ (e : Effect). after e lent) (refused-grown (ltb 7 bits) (number_of answers.Clock) _ (good-grown (eqb c.number 0) c.number _ refl))
 
   record-grown : (v : Reading) → record_by s (d + p) input at lent v ≡ grown_turn d (record_by s p input at lent v)
-  record-grown Refused = refl
-  record-grown (Found r next) = go (stale_of s.sequence r.sequence r.body)
+  record-grown None = refl
+  record-grown (Some (r, next)) = go (stale_of s.sequence r.sequence r.body)
     where
       refused : ℕ → Turn
       refused q = turn_as (after (bad_of s (number_of answers.Sequence) q) lent) at

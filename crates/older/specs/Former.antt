@@ -2,13 +2,13 @@
 -- with C2 lists so still. Proved in proofs/Former.antt.
 use Rattle.std.specs.Prelude.{ℕ, zero, suc, ◌+◌, ◌*◌, ◌≡◌, Bool, true, false, List, [], ◌∷◌, ◌++◌, eqb, length}
 use Rattle.kit.specs.Choice.{when}
-use Rattle.kit.specs.declared.answer.Answer.TheVariants as answers
+use Rattle.kit.specs.declared.answer.Refusal.TheVariants as answers
 use Rattle.kit.specs.Answer.{number_of}
 use Rattle.kit.specs.Word.{half_at}
 use Rattle.listing.specs.declared.line.Line.{Line}
 use Rattle.listing.specs.Line.{header_of}
-use Rattle.record.specs.declared.reading.Reading.{Reading}
-use Rattle.record.specs.declared.reading.Reading.TheVariants.{Refused}
+use Rattle.record.specs.Reading.{Reading}
+use Rattle.std.specs.Prelude.{None}
 use Rattle.record.specs.Mark.{letters}
 use Rattle.record.specs.Reading.{reading_of}
 use Rattle.record.specs.Starts.{starts_one, starts_two}
@@ -23,7 +23,7 @@ use Rattle.older.specs.Older.{silent}
 
 -- C2 was no mark: it was refused wherever it stood. No record had an engine number
 abbrev pub former_reading : List ℕ → ℕ → Bool → Reading
-former_reading s at first = when (eqb (half_at s at) (letters 67 50)) Refused (reading_of s at first false)
+former_reading s at first = when (eqb (half_at s at) (letters 67 50)) None (reading_of s at first false)
 
 -- a record by what this reading gave: there was no other engine to choose
 abbrev pub former_record : List ℕ → Replay → Turn

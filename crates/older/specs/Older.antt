@@ -2,7 +2,7 @@
 -- or not. Proved in proofs/Claims.antt.
 use Rattle.std.specs.Prelude.{ℕ, ◌+◌, ◌*◌, ◌<◌, ◌≡◌, Bool, true, false, List, [], ◌∷◌, ◌++◌, map, eqb, leb, length}
 use Rattle.kit.specs.Choice.{when, both}
-use Rattle.kit.specs.declared.answer.Answer.TheVariants as answers
+use Rattle.kit.specs.declared.answer.Refusal.TheVariants as answers
 use Rattle.kit.specs.Answer.{number_of}
 use Rattle.kit.specs.Word.{word_at}
 use Rattle.listing.specs.declared.line.Line.{Line}

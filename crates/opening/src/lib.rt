@@ -2,10 +2,10 @@
 #![tactic(auto)]
 
 ghost use Rattle.std.specs.Prelude.{◌≡◌, ◌+◌, ◌≤◌, length};
-ghost use Rattle.digits.specs.Tables.{Tables};
 ghost use Rattle.session.specs.Effect.{settings_line_of};
 ghost use Rattle.opening.specs.Opens.{Opens};
 
+use digits::tables::DigitTables;
 use listing::line::{Line, put_line};
 use listing::word::Word;
 use record::starts::settings_at;
@@ -30,13 +30,11 @@ pub fn open(
     session: Session,
     input: &[u8],
     at: usize,
-    leading: &[u32; 1000],
-    padded: &[u32; 1000],
+    tables: &DigitTables,
     out: &mut [u8],
     put: usize,
 ) -> Passed
-    requires tables { Tables leading.now padded.now }
-    requires put_in_bounds { put + 64 ≤ length out.old }
+    requires { put + 64 ≤ length out.old }
     ensures { Opens session input.now at out.old put result out.new }
 {
     let opened = Session {
@@ -51,7 +49,7 @@ pub fn open(
         };
     }
     let line = settings_line(session);
-    let put = put_line(leading, padded, out, put, line);
+    let put = put_line(tables, out, put, line);
     Passed {
         session: opened,
         at,

@@ -3,7 +3,7 @@ use mathlib.Core.Path.{◌≡◌, refl, sym, ◌∙◌}
 use mathlib.Core.Bool.{true}
 use mathlib.Core.Logic.{◌⊎◌, inl, inr, ⊎_elim}
 use mathlib.Core.List.{List}
-use Prim.Native.Nat.{ℕ, ◌+◌, ◌-◌, ◌≤◌, ◌<◌}
+use Prim.Native.Nat.{ℕ, ◌+◌, ◌-◌, ◌≤◌, ◌<◌, max}
 use native.Mathlib.Omega.{arith}
 use lib.Dec.{leb, ltb}
 use borrow.Author.Tests.{le-leb, lt-leb, leb-true, leb-false, ltb-true, ltb-false}
@@ -15,15 +15,15 @@ use Rattle.memory.specs.Verdict.{byte_of, group_of}
 use Rattle.memory.specs.Good.{good_bytes}
 use Rattle.memory.proofs.Verdicts.{worse-right-okay}
 use Rattle.memory.proofs.GoodBytes.{good-okay, good-stops}
-use Rattle.places.specs.declared.found.Found.TheVariants.{At, Nothing}
+use Rattle.std.proofs.Common.{Some, None}
 use Rattle.places.specs.Places.{lowest_in}
 use Rattle.places.proofs.Lows.{at, none, lowest-at}
 
 pub decode-bad : Decode ≡ Okay → ⊥
-decode-bad e = let z : ◌≡◌ {A = ℕ} 0 1 = cc in omega arith
+decode-bad e = cc
 
 pub slave-bad : Slave ≡ Okay → ⊥
-slave-bad e = let z : ◌≡◌ {A = ℕ} 0 1 = cc in omega arith
+slave-bad e = cc
 
 module _ (size : ℕ) (ws : List Window) where
   -- ---- one byte
@@ -38,14 +38,14 @@ module _ (size : ℕ) (ws : List Window) where
   decode-past : (a : ℕ) → byte_of size ws a ≡ Decode → size ≤ a
   decode-past a e = ⊎_elim (λ t. leb-true size a t)
       (λ t. ⊎_elim
-      (λ u. let s : byte_of size ws a ≡ Slave = byte-sick a (leb-false size a t) u in absurd (let z : ◌≡◌ {A = ℕ} 0 1 = cc in omega arith))
-      (λ u. let s : byte_of size ws a ≡ Okay = sym (no _ t (no _ u refl)) in absurd (let z : ◌≡◌ {A = ℕ} 0 1 = cc in omega arith))
+      (λ u. let s : byte_of size ws a ≡ Slave = byte-sick a (leb-false size a t) u in absurd (cc))
+      (λ u. let s : byte_of size ws a ≡ Okay = sym (no _ t (no _ u refl)) in absurd (cc))
       (decide (sick ws a)))
       (decide (leb size a))
 
   slave-inside : (a : ℕ) → byte_of size ws a ≡ Slave → a < size
   slave-inside a e = ⊎_elim
-      (λ t. let s : byte_of size ws a ≡ Decode = byte_past a (leb-true size a t) in absurd (let z : ◌≡◌ {A = ℕ} 0 1 = cc in omega arith))
+      (λ t. let s : byte_of size ws a ≡ Decode = byte_past a (leb-true size a t) in absurd (cc))
       (λ t. leb-false size a t)
       (decide (leb size a))
 
@@ -66,27 +66,23 @@ module _ (size : ℕ) (ws : List Window) where
   -- ---- n of them, from a on
 
   module _ (a n : ℕ) where
-    pub past-none : (n ≡ 0) ⊎ (a + n ≤ size) → Nothing ≡ lowest_in size ws Decode a n
+    pub past-none : (n ≡ 0) ⊎ (a + n ≤ size) → None ≡ lowest_in size ws Decode a n
     past-none (inl e) = lowest-at size ws Decode (λ x. x) a n decode-bad (none (λ i l g. omega arith))
     past-none (inr h) = lowest-at size ws Decode (λ x. x) a n decode-bad (none (λ i l g. omega (arith, decode-past (a + i) g)))
 
-    pub past-start : 0 < n → size ≤ a → At a ≡ lowest_in size ws Decode a n
-    past-start some h = lowest-at size ws Decode (λ x. x) a n decode-bad
-        (at a (record { used = record { byte = 0; within = some; lies = omega arith }; gives = byte_past a h; least = λ i l g. omega arith }))
-
-    pub past_end : a < size → size < a + n → At size ≡ lowest_in size ws Decode a n
-    past_end h l = lowest-at size ws Decode (λ x. x) a n decode-bad
-        (at size (record {
-          used = record { byte = size - a; within = omega arith; lies = omega arith };
-          gives = byte_past size (omega arith);
-          least = λ i m g. decode-past (a + i) g;
+    pub past-first : 0 < n → size < a + n → Some (max a size) ≡ lowest_in size ws Decode a n
+    past-first some l = lowest-at size ws Decode (λ x. x) a n decode-bad
+        (at (max a size) (record {
+          used = record { byte = max a size - a; within = omega arith; lies = omega arith };
+          gives = byte_past (max a size) (omega arith);
+          least = λ i m g. omega (arith, decode-past (a + i) g);
         }))
 
-    pub sick-none : (n ≤ good_bytes size ws a) ⊎ (size ≤ a + good_bytes size ws a) → Nothing ≡ lowest_in size ws Slave a n
+    pub sick-none : (n ≤ good_bytes size ws a) ⊎ (size ≤ a + good_bytes size ws a) → None ≡ lowest_in size ws Slave a n
     sick-none (inl h) = lowest-at size ws Slave (λ x. x) a n slave-bad (none (λ i l g. good-not-sick a i (omega arith) g))
     sick-none (inr h) = lowest-at size ws Slave (λ x. x) a n slave-bad (none (λ i l g. good-not-sick a i (omega (arith, slave-inside (a + i) g)) g))
 
-    pub sick-first : good_bytes size ws a < n → a + good_bytes size ws a < size → At (a + good_bytes size ws a) ≡ lowest_in size ws Slave a n
+    pub sick-first : good_bytes size ws a < n → a + good_bytes size ws a < size → Some (a + good_bytes size ws a) ≡ lowest_in size ws Slave a n
     sick-first h l = lowest-at size ws Slave (λ x. x) a n slave-bad
         (at (a + good_bytes size ws a) (record {
           used = record { byte = good_bytes size ws a; within = h; lies = refl };

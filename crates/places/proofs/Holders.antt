@@ -1,14 +1,13 @@
 -- Laws of `holder_of`: the window that it numbers, and the windows of a flat slice as a loop goes over them by two.
 use mathlib.Core.Path.{◌≡◌, refl, sym, ap, ◌∙◌}
 use mathlib.Core.Bool.{true, false}
-use mathlib.Core.List.{List, [], ◌∷◌}
-use Prim.Native.Nat.{ℕ, suc, ◌+◌, ◌≤◌, ◌<◌}
-use native.Mathlib.Omega.{arith}
-use lib.ListN.{length, drop, length-drop}
+use mathlib.Core.List.{List, [], ◌∷◌, ◌++◌}
+use Prim.Native.Nat.{ℕ, suc, ◌<◌}
+use lib.ListN.{length}
 use Rattle.kit.proofs.Choice.{yes, no, cases, never}
 use Rattle.memory.specs.declared.window.Window.{Window}
-use Rattle.memory.specs.Windows.{windows_of, inside, sick}
-use Rattle.memory.proofs.Flat.{window_at, windows-cons, too_few}
+use Rattle.memory.specs.Windows.{windows_of, window_in, inside, sick}
+use Rattle.memory.proofs.Pairs.{first-window, no-window}
 use Rattle.places.specs.Places.{holder_of}
 use Rattle.places.specs.Claims.{Holder, here, later}
 
@@ -19,18 +18,17 @@ holder [] a e = absurd (never e)
 holder (w ∷ ws) a e =
     cases (Holder (w ∷ ws) a) (inside w a) here (λ out. later out (holder ws a (no true out refl ∙ e)))
 
--- ---- a flat slice, from place i on
+-- ---- a flat slice, as a loop takes its windows off its front
 
-module _ (l : List ℕ) (i a : ℕ) where
-  pub holder-end : length l ≤ i + 1 → holder_of (windows_of (drop i l)) a ≡ 0
-  unfolding holder_of
-  holder-end h = ap (λ (ws : List Window). holder_of ws a) (too_few (drop i l) (simp length-drop (omega arith)))
+pub holder-end : (l : List ℕ) (a : ℕ) → length l < 2 → holder_of (windows_of l) a ≡ 0
+unfolding holder_of
+holder-end l a h = ap (λ (ws : List Window). holder_of ws a) (no-window l h)
 
-  pub holder-here : i + 1 < length l → inside (window_at l i) a ≡ true → 0 ≡ holder_of (windows_of (drop i l)) a
+module _ (l p rest : List ℕ) (taken : l ≡ p ++ rest) (two : length p ≡ 2) (a : ℕ) where
+  pub holder-here : inside (window_in p) a ≡ true → 0 ≡ holder_of (windows_of l) a
   unfolding holder_of
-  holder-here h t = yes _ t refl ∙ sym (ap (λ (ws : List Window). holder_of ws a) (windows-cons l i h))
+  holder-here t = yes _ t refl ∙ sym (ap (λ (ws : List Window). holder_of ws a) (first-window l p rest taken two))
 
-  pub holder-on : i + 1 < length l → inside (window_at l i) a ≡ false
-      → suc (holder_of (windows_of (drop (i + 2) l)) a) ≡ holder_of (windows_of (drop i l)) a
+  pub holder-on : inside (window_in p) a ≡ false → suc (holder_of (windows_of rest) a) ≡ holder_of (windows_of l) a
   unfolding holder_of
-  holder-on h t = no _ t refl ∙ sym (ap (λ (ws : List Window). holder_of ws a) (windows-cons l i h))
+  holder-on t = no _ t refl ∙ sym (ap (λ (ws : List Window). holder_of ws a) (first-window l p rest taken two))

@@ -12,8 +12,7 @@ use Rattle.memory.specs.declared.verdict.Verdict.{Verdict}
 use Rattle.memory.specs.declared.verdict.Verdict.TheVariants.{Okay, Slave, Decode}
 use Rattle.memory.specs.Verdict.{byte_of}
 use Rattle.sides.proofs.Places.{Along, over, along-head, along-tail}
-use Rattle.places.specs.declared.found.Found.{Found}
-use Rattle.places.specs.declared.found.Found.TheVariants.{At, Nothing}
+use Rattle.std.proofs.Common.{Option, Some, None}
 use Rattle.places.specs.Places.{same_error, given_by, lower, lowest_of}
 use Rattle.places.specs.Claims.{Used, Without, Lowest}
 
@@ -30,9 +29,9 @@ pub same_false : (u v : Verdict) → (v ≡ Okay → ⊥) → same_error u v ≡
 same_false Okay v some e f = some (sym f)
 same_false Slave Okay some e f = some refl
 same_false Slave Slave some e f = never (sym e)
-same_false Slave Decode some e f = let z : ◌≡◌ {A = ℕ} 0 1 = cc in omega arith
+same_false Slave Decode some e f = cc
 same_false Decode Okay some e f = some refl
-same_false Decode Slave some e f = let z : ◌≡◌ {A = ℕ} 0 1 = cc in omega arith
+same_false Decode Slave some e f = cc
 same_false Decode Decode some e f = never (sym e)
 
 same-okay : (u : Verdict) → same_error u Okay ≡ false
@@ -42,9 +41,9 @@ same-okay Decode = refl
 
 module _ (size : ℕ) (ws : List Window) (v : Verdict) where
   -- what may be found of n bytes from byte k on
-  pub data Finds (place : ℕ → ℕ) (k n : ℕ) : Found → Type 0 where
-    at : (a : ℕ) → Lowest size ws v place k n a → Finds place k n (At a)
-    none : Without size ws v place k n → Finds place k n Nothing
+  pub data Finds (place : ℕ → ℕ) (k n : ℕ) : Option ℕ → Type 0 where
+    at : (a : ℕ) → Lowest size ws v place k n a → Finds place k n (Some a)
+    none : Without size ws v place k n → Finds place k n None
 
   module _ (place : ℕ → ℕ) (k n : ℕ) where
     -- one byte more, in front
@@ -60,16 +59,16 @@ module _ (size : ℕ) (ws : List Window) (v : Verdict) where
     each P first later (suc i) l = subst (λ (x : ℕ). P (place x)) (over k i) (later i (omega arith))
 
     module _ (some : v ≡ Okay → ⊥) where
-      first_gives : same_error (byte_of size ws (place k)) v ≡ true → {p : Found} → Finds place (suc k) n p → Finds place k (suc n) (lower (At (place k)) p)
+      first_gives : same_error (byte_of size ws (place k)) v ≡ true → {p : Option ℕ} → Finds place (suc k) n p → Finds place k (suc n) (lower (Some (place k)) p)
       first_gives e (at b h) =
           min_cases (place k) b _
-          (λ l q. subst (λ (x : ℕ). Finds place k (suc n) (At x)) (sym q)
+          (λ l q. subst (λ (x : ℕ). Finds place k (suc n) (Some x)) (sym q)
           (at (place k) (record {
             used = first-used;
             gives = same_true (byte_of size ws (place k)) v e;
             least = each (λ (x : ℕ). byte_of size ws x ≡ v → place k ≤ x) (λ _. omega arith) (λ i m g. omega (arith, h.least i m g));
           })))
-          (λ l q. subst (λ (x : ℕ). Finds place k (suc n) (At x)) (sym q)
+          (λ l q. subst (λ (x : ℕ). Finds place k (suc n) (Some x)) (sym q)
           (at b (record {
             used = later-used h.used;
             gives = h.gives;
@@ -82,7 +81,7 @@ module _ (size : ℕ) (ws : List Window) (v : Verdict) where
             least = each (λ (x : ℕ). byte_of size ws x ≡ v → place k ≤ x) (λ _. omega arith) (λ i m g. absurd (h i m g));
           })
 
-      first-gives-not : same_error (byte_of size ws (place k)) v ≡ false → {p : Found} → Finds place (suc k) n p → Finds place k (suc n) p
+      first-gives-not : same_error (byte_of size ws (place k)) v ≡ false → {p : Option ℕ} → Finds place (suc k) n p → Finds place k (suc n) p
       first-gives-not e (at b h) =
           at b (record {
             used = later-used h.used;
@@ -97,7 +96,7 @@ module _ (size : ℕ) (ws : List Window) (v : Verdict) where
   finds place k zero some = none (λ i l. absurd (not-suc-le-zero l))
   finds place k (suc n) some =
       let rest = finds place (suc k) n some in
-      cases (λ (p : Found). Finds place k (suc n) (lower p (lowest_of size ws v place (suc k) n))) (same_error (byte_of size ws (place k)) v)
+      cases (λ (p : Option ℕ). Finds place k (suc n) (lower p (lowest_of size ws v place (suc k) n))) (same_error (byte_of size ws (place k)) v)
       (λ e. first_gives place k n some e rest) (λ e. first-gives-not place k n some e rest)
 
   pub only-lowest : (place : ℕ → ℕ) (k n a b : ℕ) → Lowest size ws v place k n a → Lowest size ws v place k n b → a ≡ b
@@ -111,13 +110,13 @@ module _ (size : ℕ) (ws : List Window) (v : Verdict) where
   without-none place k n a h g = h g.used.byte g.used.within (ap (byte_of size ws) g.used.lies ∙ g.gives)
 
   -- one place fits only
-  pub finds-one : (place : ℕ → ℕ) (k n : ℕ) {p q : Found} → Finds place k n p → Finds place k n q → p ≡ q
-  finds-one place k n (at a g) (at b h) = ap At (only-lowest place k n a b g h)
+  pub finds-one : (place : ℕ → ℕ) (k n : ℕ) {p q : Option ℕ} → Finds place k n p → Finds place k n q → p ≡ q
+  finds-one place k n (at a g) (at b h) = ap Some (only-lowest place k n a b g h)
   finds-one place k n (at a g) (none h) = absurd (without-none place k n a h g)
   finds-one place k n (none g) (at b h) = absurd (without-none place k n b g h)
   finds-one place k n (none g) (none h) = refl
 
-  pub lowest-at : (place : ℕ → ℕ) (k n : ℕ) {p : Found} → (v ≡ Okay → ⊥) → Finds place k n p → p ≡ lowest_of size ws v place k n
+  pub lowest-at : (place : ℕ → ℕ) (k n : ℕ) {p : Option ℕ} → (v ≡ Okay → ⊥) → Finds place k n p → p ≡ lowest_of size ws v place k n
   lowest-at place k n some h = finds-one place k n h (finds place k n some)
 
   -- the same places
@@ -126,10 +125,10 @@ module _ (size : ℕ) (ws : List Window) (v : Verdict) where
   unfolding lowest_of
   lowest-along place k other j zero h = refl
   lowest-along place k other j (suc n) h =
-      ap₂ (λ (x : ℕ) (p : Found). lower (given_by size ws v x) p) (along-head place k other j n h) (lowest-along place (suc k) other (suc j) n (along-tail place k other j n h))
+      ap₂ (λ (x : ℕ) (p : Option ℕ). lower (given_by size ws v x) p) (along-head place k other j n h) (lowest-along place (suc k) other (suc j) n (along-tail place k other j n h))
 
-pub okay-nothing : (size : ℕ) (ws : List Window) (place : ℕ → ℕ) (k n : ℕ) → lowest_of size ws Okay place k n ≡ Nothing
+pub okay-nothing : (size : ℕ) (ws : List Window) (place : ℕ → ℕ) (k n : ℕ) → lowest_of size ws Okay place k n ≡ None
 unfolding lowest_of
 okay-nothing size ws place k zero = refl
 okay-nothing size ws place k (suc n) =
-    ap₂ (λ (t : Bool) (p : Found). lower (when t (At (place k)) Nothing) p) (same-okay (byte_of size ws (place k))) (okay-nothing size ws place (suc k) n)
+    ap₂ (λ (t : Bool) (p : Option ℕ). lower (when t (Some (place k)) None) p) (same-okay (byte_of size ws (place k))) (okay-nothing size ws place (suc k) n)

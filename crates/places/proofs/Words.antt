@@ -16,7 +16,7 @@ use Rattle.memory.specs.Verdict.{byte_of}
 use Rattle.sides.specs.Sides.{place_of}
 use Rattle.sides.proofs.Places.{Run, plain-run}
 use Rattle.sides.proofs.Words.{upper, lower}
-use Rattle.places.specs.declared.found.Found.{Found}
+use Rattle.std.proofs.Common.{Option}
 use Rattle.places.specs.Places.{lowest_of, lowest_in, first_found}
 use Rattle.places.specs.Claims.{Used}
 use Rattle.places.proofs.Groups.{slave-bad, decode-bad}
@@ -80,7 +80,7 @@ module _ (w a k n c f : ℕ) (some : 0 < w) (all : c ≡ min n w) (e : f ≡ min
         (λ m. let j : ℕ = place (k + i) - (a + k % w) in subst P (omega (arith, m.0)) (highs j (omega (arith, m.0, m.1))))
         (member i l)
 
-    parts : {p q : Found} → Finds size ws v (λ x. x) a (c - f) p → Finds size ws v (λ x. x) (a + k % w) f q → Finds size ws v place k n (first_found p q)
+    parts : {p q : Option ℕ} → Finds size ws v (λ x. x) a (c - f) p → Finds size ws v (λ x. x) (a + k % w) f q → Finds size ws v place k n (first_found p q)
     parts (at x g) h =
         at x (record {
           used = low-used g.used;
@@ -102,7 +102,7 @@ module _ (w a k n c f : ℕ) (some : 0 < w) (all : c ≡ min n w) (e : f ≡ min
   pub word-lowest : (size : ℕ) (ws : List Window) (v : Verdict)
       → first_found (lowest_in size ws v a (c - f)) (lowest_in size ws v (a + k % w) f) ≡ lowest_of size ws v place k n
   word-lowest size ws Okay =
-      ap (λ (p : Found). first_found p (lowest_in size ws Okay (a + k % w) f)) (okay-nothing size ws (λ x. x) a (c - f))
+      ap (λ (p : Option ℕ). first_found p (lowest_in size ws Okay (a + k % w) f)) (okay-nothing size ws (λ x. x) a (c - f))
       ∙ okay-nothing size ws (λ x. x) (a + k % w) f ∙ sym (okay-nothing size ws place k n)
   word-lowest size ws Slave = some-error size ws Slave slave-bad
   word-lowest size ws Decode = some-error size ws Decode decode-bad

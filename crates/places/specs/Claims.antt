@@ -1,12 +1,12 @@
 -- What the definitions of specs/Places.antt imply: proved in proofs/Claims.antt.
-use Rattle.std.specs.Prelude.{◌≡◌, ◌⊎◌, ℕ, suc, ◌+◌, ◌≤◌, ◌<◌, true, false, List, ◌∷◌}
+use Rattle.std.specs.Prelude.{◌≡◌, ◌⊎◌, ℕ, suc, ◌+◌, ◌≤◌, ◌<◌, true, false, List, ◌∷◌, Some, None, Result}
+use Rattle.kit.specs.declared.answer.Refusal.{Refusal}
 use Rattle.memory.specs.declared.window.Window.{Window}
 use Rattle.memory.specs.declared.verdict.Verdict.{Verdict}
 use Rattle.memory.specs.declared.verdict.Verdict.TheVariants.{Okay, Slave, Decode}
 use Rattle.memory.specs.Windows.{inside}
 use Rattle.memory.specs.Verdict.{byte_of, group_of}
 use Rattle.sides.specs.Sides.{side_answer, sides_answer}
-use Rattle.places.specs.declared.found.Found.TheVariants.{At, Nothing}
 use Rattle.places.specs.declared.locate.Located.{Located}
 use Rattle.places.specs.Places.{lowest_of, fault_of, address_of}
 use Rattle.places.specs.Locate.{Location, told_alone, located_seen, location_of}
@@ -39,13 +39,13 @@ pub data Holder : List Window → ℕ → ℕ → Type 0 where
 
 pub record Claims : Type 0 where
   -- OKAY has no place
-  pub okay-nowhere : (size : ℕ) (windows : List Window) (place : ℕ → ℕ) (k n : ℕ) → lowest_of size windows Okay place k n ≡ Nothing
+  pub okay-nowhere : (size : ℕ) (windows : List Window) (place : ℕ → ℕ) (k n : ℕ) → lowest_of size windows Okay place k n ≡ None
   -- an error that none of the bytes gives has none either
   pub absent : (size : ℕ) (windows : List Window) (v : Verdict) (place : ℕ → ℕ) (k n : ℕ) → (v ≡ Okay → ⊥)
-      → lowest_of size windows v place k n ≡ Nothing → Without size windows v place k n
+      → lowest_of size windows v place k n ≡ None → Without size windows v place k n
   -- a place that is found is the lowest
   pub found : (size : ℕ) (windows : List Window) (v : Verdict) (place : ℕ → ℕ) (k n a : ℕ)
-      → lowest_of size windows v place k n ≡ At a → Lowest size windows v place k n a
+      → lowest_of size windows v place k n ≡ Some a → Lowest size windows v place k n a
   -- and there is no other
   pub only : (size : ℕ) (windows : List Window) (v : Verdict) (place : ℕ → ℕ) (k n a b : ℕ)
       → Lowest size windows v place k n a → Lowest size windows v place k n b → a ≡ b
@@ -66,4 +66,4 @@ pub record Claims : Type 0 where
       → let r = location_of size windows a n in
       (r.verdict ≡ Decode) × Lowest size windows Decode (λ x. x) a n r.place × (r.window ≡ 0)
   -- two results that the contract of `locate` allows are equal
-  pub unique : (x : Location) (r q : Located) → located_seen r ≡ x → located_seen q ≡ x → r ≡ q
+  pub unique : (x : Location) (r q : Result Located Refusal) → located_seen r ≡ x → located_seen q ≡ x → r ≡ q

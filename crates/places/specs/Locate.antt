@@ -1,7 +1,7 @@
 -- RULES.md, "Memory that answers badly" and "Numbered answers": what a caller is told of a group of bytes.
-use Rattle.std.specs.Prelude.{ℕ, ◌/◌, List, length, ltb}
+use Rattle.std.specs.Prelude.{ℕ, ◌/◌, List, length, ltb, Result, Ok, Err}
 use Rattle.kit.specs.Choice.{when}
-use Rattle.kit.specs.declared.answer.Answer.{Answer}
+use Rattle.kit.specs.declared.answer.Refusal.{Refusal}
 use Rattle.kit.specs.Answer.{number_of}
 use Rattle.kit.specs.Limits.{most_memory, most_windows}
 use Rattle.memory.specs.declared.window.Window.{Window}
@@ -25,16 +25,14 @@ pub record Location : Type 0 where
   pub place : ℕ
   pub window : ℕ
 
-abbrev pub located_seen : Located → Location
-located_seen r = record { answer = number_of r.answer; verdict = r.verdict; place = r.place; window = r.window }
-
--- a refusal: all beside its answer is 0
-abbrev pub refused_by : Answer → Located
-refused_by answer = record { answer = answer; verdict = Okay; place = 0; window = 0 }
-
 -- an answer's number alone: OKAY beside it, and no place
 abbrev pub told_alone : ℕ → Location
 told_alone n = record { answer = n; verdict = Okay; place = 0; window = 0 }
+
+-- what a call hands back: a refusal's number alone, or 0 and what it found
+abbrev pub located_seen : Result Located Refusal → Location
+located_seen (Ok r) = record { answer = 0; verdict = r.verdict; place = r.place; window = r.window }
+located_seen (Err refusal) = told_alone (number_of refusal)
 
 -- a group that answered v, its place at p
 abbrev pub location_by : List Window → Verdict → ℕ → Location

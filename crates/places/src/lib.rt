@@ -2,6 +2,5 @@
 #![tactic(auto)]
 
 pub mod fault;
-pub mod found;
 pub mod group;
 pub mod locate;

@@ -1,4 +1,5 @@
 -- The claims of specs/Claims.antt.
+use Rattle.std.specs.Prelude.{Result, Ok, Err}
 use mathlib.Core.Path.{◌≡◌, refl, sym, ap, ap₂, subst, ◌∙◌}
 use Prim.Native.Nat.{ℕ, ◌+◌, ◌*◌, ◌/◌, ◌%◌, ◌≤◌, ◌<◌, ◌^◌}
 use mathlib.Core.List.{List, [], ◌∷◌, ◌++◌}
@@ -6,21 +7,21 @@ use lib.ListN.{length, drop}
 use lib.Seq.{sets, sets-eq, length-sets, drop-append_seam}
 use native.Mathlib.Nat.{zero-add}
 use native.Mathlib.Omega.{arith}
-use borrow.Author.Tests.{ne_eqb}
+use borrow.Author.Tests.{ne_eqb, eqb-false}
 use Rattle.kit.specs.Word.{joined}
 use Rattle.kit.proofs.Choice.{no}
 use Rattle.kit.proofs.Legal.{legal}
-use Rattle.kit.proofs.Numbers.{number-tells}
+use Rattle.kit.specs.declared.answer.Refusal.{Refusal}
+use Rattle.kit.proofs.Numbers.{refusal-tells, refusal-some}
 use Rattle.cut.specs.declared.Burst.{Burst}
 use Rattle.cut.specs.Cut.{cut}
 use Rattle.cut.specs.Legal.{Tiles, stop, WellCut}
 use Rattle.cut.proofs.Shortest.{well-cut}
-use Rattle.plan.specs.declared.measure.Planned.{Planned}
 use Rattle.plan.specs.Plan.{Measured, measure_of, places_of, Plan, written, seen}
+use Rattle.plan.specs.Spelling.{little, places_spelling, little_spelling}
 use Rattle.plan.specs.Claims.{bursts_in, bursts_in_bytes, WellPlanned, Unchanged, Claims, Unique}
 use Rattle.plan.proofs.Planning.{Planable, planable, refused_none}
 use Rattle.plan.proofs.Counting.{count_fits}
-use Rattle.plan.proofs.Filling.{little, places-coding, little-coding}
 
 -- ---- bursts read back from what is written
 
@@ -91,11 +92,11 @@ pub plan-claims : Claims
 plan-claims = record {
   plan = λ w l start count places e.
       let p = planable w l start count (length places) e in
-      well-planned places_of bursts_in 2 w l start count (length places) places p places-coding.sized
+      well-planned places_of bursts_in 2 w l start count (length places) places p places_spelling.sized
       (λ _ after. places-back (cut w l start (start + count)) after) p.fits;
   plan-bytes = λ w l start count places e.
       let p = planable w l start count (length places / 4) e in
-      well-planned little bursts_in_bytes 8 w l start count (length places / 4) places p little-coding.sized
+      well-planned little bursts_in_bytes 8 w l start count (length places / 4) places p little_spelling.sized
       (λ t after. little-back start (start + count) p.range.inside (let r = p.range in omega arith) (cut w l start (start + count)) t after) (let f = p.fits in omega arith);
   plan-refused = λ w l start count places h. unchanged w l start count (length places) (places_of (cut w l start (start + count))) places h;
   plan-bytes-refused = λ w l start count places h. unchanged w l start count (length places / 4) (little (cut w l start (start + count))) places h;
@@ -104,12 +105,14 @@ plan-claims = record {
 
 -- ---- uniqueness
 
-same-plan : {p q : Planned} {a b : List ℕ} {x : Plan} → seen p a ≡ x → seen q b ≡ x → (p ≡ q) × (a ≡ b)
-same-plan {p} {q} e f =
-    let same = e ∙ sym f in
-    let answers = number-tells (ap (λ (y : Plan). y.answer) same) in
-    let bursts = ap (λ (y : Plan). y.bursts) same in
-    (λ i. record { answer = answers i; bursts = bursts i }, ap (λ (y : Plan). y.places) same)
+same-plan : {p q : Result ℕ Refusal} {a b : List ℕ} {x : Plan} → seen p a ≡ x → seen q b ≡ x → (p ≡ q) × (a ≡ b)
+same-plan {p} {q} {a} {b} e f = let same : seen p a ≡ seen q b = e ∙ sym f in (go p q same, ap (λ (y : Plan). y.places) same)
+  where
+    go : (p q : Result ℕ Refusal) → seen p a ≡ seen q b → p ≡ q
+    go (Ok n) (Ok k) e = ap Ok (ap (λ (y : Plan). y.bursts) e)
+    go (Err r) (Err t) e = ap Err (refusal-tells (ap (λ (y : Plan). y.answer) e))
+    go (Ok n) (Err t) e = absurd (eqb-false _ 0 (refusal-some t) (sym (ap (λ (y : Plan). y.answer) e)))
+    go (Err r) (Ok k) e = absurd (eqb-false _ 0 (refusal-some r) (ap (λ (y : Plan). y.answer) e))
 
 -- a measure, as the plan of an empty slice
 bare : Measured → Plan

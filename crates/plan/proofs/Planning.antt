@@ -2,21 +2,17 @@
 use mathlib.Core.Path.{◌≡◌, refl, sym, ap, ◌∙◌}
 use Prim.Native.Nat.{ℕ, ◌+◌, ◌-◌, ◌*◌, ◌≤◌, ◌<◌}
 use mathlib.Core.Bool.{Bool, true, false}
-use mathlib.Core.List.{List}
 use mathlib.Core.Logic.{◌⊎◌, inl, inr}
 use lib.ListN.{length}
-use lib.Seq.{sets}
 use lib.Dec.{eqb, ltb}
 use native.Mathlib.Omega.{arith}
-use borrow.Author.Tests.{ltb-true, ltb-false, lt-ltb, le-ltb, eqb-false, eq-eqb, ne_eqb}
+use borrow.Author.Tests.{ltb-true, ltb-false, lt-ltb, le-ltb, eqb-false}
 use Rattle.kit.specs.Choice.{when, either}
 use Rattle.kit.specs.Limits.{most_bytes, address_end}
 use Rattle.kit.specs.Settings.{legal_settings}
-use Rattle.kit.specs.Answer.{number_of}
 use Rattle.kit.proofs.Choice.{yes, no, cases, decide, never}
 use Rattle.cut.specs.Cut.{cut}
-use Rattle.plan.specs.declared.measure.Planned.{Planned}
-use Rattle.plan.specs.Plan.{out_of_range, Measured, refusal, measure_of, written, measured, seen}
+use Rattle.plan.specs.Plan.{out_of_range, Measured, refusal, measure_of}
 
 -- the code compares lengths, and never makes the sum
 pub past_end : (start count : ℕ) → start ≤ address_end → ltb (address_end - start) count ≡ ltb address_end (start + count)
@@ -75,6 +71,10 @@ planable w l start count room e = go (legal_settings w l) (out_of_range start co
       counted = sym (yes (refusal 1) p (no (refusal 7) q (no (refusal 8) r refl)));
     }
 
+-- a plan that was measured
+pub fillable : {w l start count room n : ℕ} → counted_as n ≡ measure_of w l start count room → Planable w l start count room
+fillable {w} {l} {start} {count} {room} e = planable w l start count room (ap (λ (m : Measured). m.answer) (sym e))
+
 pub refused_none : (w l start count room : ℕ) → ((measure_of w l start count room).answer ≡ 0 → ⊥) → (measure_of w l start count room).bursts ≡ 0
 unfolding measure_of
 refused_none w l start count room =
@@ -84,18 +84,3 @@ refused_none w l start count room =
   where
     P : Measured → Type 0
     P m = (m.answer ≡ 0 → ⊥) → m.bursts ≡ 0
-
--- a measured plan of number 0 that wrote its values, and one of another number that wrote nothing, are what is promised
-module _ (r : Planned) {m : Measured} (measures : measured r ≡ m) {k : ℕ} (numbered : k ≡ number_of r.answer) (values places : List ℕ) where
-  pub zero-answer : k ≡ 0 → m.answer ≡ 0
-  zero-answer z = sym (ap (λ (x : Measured). x.answer) measures) ∙ sym numbered ∙ z
-
-  -- with this slice afterwards, the result is as promised
-  left : (out : List ℕ) → out ≡ when (eqb (number_of r.answer) 0) (sets places 0 values) places → seen r out ≡ written m values places
-  left out e = ap (seen r) e ∙ ap (λ (x : Measured). written x values places) measures
-
-  pub writes : (out : List ℕ) → k ≡ 0 → out ≡ sets places 0 values → seen r out ≡ written m values places
-  writes out z e = left out (yes places (eq-eqb (number_of r.answer) 0 (sym numbered ∙ z)) e)
-
-  pub keeps : (k ≡ 0 → ⊥) → seen r places ≡ written m values places
-  keeps z = left places (no (sets places 0 values) (ne_eqb (number_of r.answer) 0 (λ e. z (numbered ∙ e))) refl)

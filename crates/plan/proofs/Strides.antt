@@ -7,7 +7,7 @@ use mathlib.Core.Logic.{◌⊎◌, inl, inr}
 use lib.Count.{count_trailing_zeros}
 use lib.Dec.{eqb, ltb, leb}
 use lib.ListN.{length, length-append}
-use native.Mathlib.Nat.{mul-div-le, mod-lt, div-add-mod, div-eq_of_lt, add-div_right, mul-add-div, dvd_of_mod-eq-zero}
+use native.Mathlib.Nat.{mul-div-le, mod-lt, div-add-mod, div-eq_of_lt, add-div_right, mul-add-div, mul-suc, dvd_of_mod-eq-zero, mul-suc}
 use native.Mathlib.Omega.{arith}
 use borrow.Author.Tests.{ltb-true, leb-true, leb-false, eqb-true, eqb-false, eq-eqb, ne_eqb}
 use Rattle.kit.specs.Choice.{when}
@@ -46,6 +46,12 @@ laid a n = record { start = a; bytes = n }
 pub even-length : (each k a : ℕ) → length (even_of each k a) ≡ k
 even-length each zero a = refl
 even-length each (suc k) a = ap suc (even-length each k (a + each))
+
+pub even-suc : (each k a : ℕ) → even_of each (suc k) a ≡ even_of each k a ++ (laid (a + each * k) each ∷ [])
+even-suc each zero a = ap (λ (x : ℕ). laid x each ∷ []) (omega arith)
+even-suc each (suc k) a =
+    ap (λ (bs : List Burst). laid a each ∷ bs)
+    (even-suc each k (a + each) ∙ ap (λ (x : ℕ). even_of each k (a + each) ++ (laid x each ∷ [])) (omega (arith, mul-suc each k)))
 
 -- bytes laid by strides, of which k are whole
 pub record Stretch (each at bytes k : ℕ) : Type 0 where

@@ -1,10 +1,10 @@
 -- RULES.md, "Cutting a transfer", and the plan half of demand 3: what holds of every plan. Proved in proofs/Claims.antt.
-use Rattle.std.specs.Prelude.{ℕ, zero, suc, ◌+◌, ◌*◌, ◌≤◌, ◌≡◌, List, [], ◌∷◌, length, get_or, drop, ltb}
+use Rattle.std.specs.Prelude.{ℕ, zero, suc, ◌+◌, ◌*◌, ◌≤◌, ◌≡◌, Result, List, [], ◌∷◌, length, get_or, drop, ltb}
 use Rattle.kit.specs.Choice.{when}
 use Rattle.kit.specs.Word.{word_at}
+use Rattle.kit.specs.declared.answer.Refusal.{Refusal}
 use Rattle.cut.specs.declared.Burst.{Burst}
 use Rattle.cut.specs.Legal.{WellCut}
-use Rattle.plan.specs.declared.measure.Planned.{Planned}
 use Rattle.plan.specs.Plan.{Measured, refusal, measure_of, counted_of, measured, Plan, plan_of, plan_bytes_of, seen}
 
 -- the bursts that the first places hold, two places each: start, byte count
@@ -53,10 +53,10 @@ pub record Claims : Type 0 where
 
 -- two results that one contract allows are equal, and so are the slices they leave
 pub record Unique : Type 0 where
-  pub measure : (w l start count room : ℕ) (p q : Planned) → measured p ≡ measure_of w l start count room
+  pub measure : (w l start count room : ℕ) (p q : Result ℕ Refusal) → measured p ≡ measure_of w l start count room
       → measured q ≡ measure_of w l start count room → p ≡ q
-  pub count : (w l start count : ℕ) (p q : Planned) → measured p ≡ counted_of w l start count → measured q ≡ counted_of w l start count → p ≡ q
-  pub plan : (w l start count : ℕ) (places a b : List ℕ) (p q : Planned) → seen p a ≡ plan_of w l start count places
+  pub count : (w l start count : ℕ) (p q : Result ℕ Refusal) → measured p ≡ counted_of w l start count → measured q ≡ counted_of w l start count → p ≡ q
+  pub plan : (w l start count : ℕ) (places a b : List ℕ) (p q : Result ℕ Refusal) → seen p a ≡ plan_of w l start count places
       → seen q b ≡ plan_of w l start count places → (p ≡ q) × (a ≡ b)
-  pub plan-bytes : (w l start count : ℕ) (places a b : List ℕ) (p q : Planned) → seen p a ≡ plan_bytes_of w l start count places
+  pub plan-bytes : (w l start count : ℕ) (places a b : List ℕ) (p q : Result ℕ Refusal) → seen p a ≡ plan_bytes_of w l start count places
       → seen q b ≡ plan_bytes_of w l start count places → (p ≡ q) × (a ≡ b)

@@ -1,3 +1,4 @@
 pub mod Plan
 pub mod Layout
+pub mod Spelling
 pub mod Claims

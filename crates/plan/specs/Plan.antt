@@ -1,15 +1,15 @@
 -- RULES.md, "Cutting a transfer": what a plan answers and writes.
-use Rattle.std.specs.Prelude.{ℕ, ◌+◌, ◌*◌, ◌/◌, Bool, List, [], ◌∷◌, ◌++◌, length, eqb, ltb}
+use Rattle.std.specs.Prelude.{ℕ, ◌+◌, ◌*◌, ◌/◌, Bool, Result, Ok, Err, List, [], ◌∷◌, ◌++◌, length, eqb, ltb}
 use Rattle.std.proofs.lemmas.List.Edits.{sets}
 use Rattle.kit.specs.Choice.{when, either}
 use Rattle.kit.specs.Limits.{most_bytes, address_end}
 use Rattle.kit.specs.Settings.{legal_settings}
 use Rattle.kit.specs.Answer.{number_of}
+use Rattle.kit.specs.declared.answer.Refusal.{Refusal}
 use Rattle.kit.specs.Word.{bytes_of}
 use Rattle.cut.specs.declared.Burst.{Burst}
 use Rattle.cut.specs.Cut.{cut}
 use Rattle.cut.specs.Count.{count_of}
-use Rattle.plan.specs.declared.measure.Planned.{Planned}
 
 -- a plan of 0 or too many bytes, or one that leaves the addresses: answer 7
 abbrev pub out_of_range : ℕ → ℕ → Bool
@@ -67,8 +67,9 @@ plan_bytes_of w l start count places =
     written (measure_of w l start count (length places / 4)) (little_of (places_of (cut w l start (start + count)))) places
 
 -- the code's results, as a caller sees them
-abbrev pub measured : Planned → Measured
-measured r = record { answer = number_of r.answer; bursts = r.bursts }
+abbrev pub measured : Result ℕ Refusal → Measured
+measured (Ok bursts) = record { answer = 0; bursts = bursts }
+measured (Err r) = refusal (number_of r)
 
-abbrev pub seen : Planned → List ℕ → Plan
-seen r places = record { answer = number_of r.answer; bursts = r.bursts; places = places }
+abbrev pub seen : Result ℕ Refusal → List ℕ → Plan
+seen r places = let m = measured r in record { answer = m.answer; bursts = m.bursts; places = places }

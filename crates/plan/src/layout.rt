@@ -13,20 +13,14 @@ use cut::{PAGE, span, word_offset};
 pub fn stride(width: u32, beats: u32) -> u32
     ensures { result ≡ stride_of width beats }
 {
-    let words = span(width, beats);
-    if words < PAGE {
-        words as u32
-    } else {
-        PAGE as u32
-    }
+    span(width, beats).min(PAGE) as u32
 }
 
 // How many bytes of a transfer are in the page that it starts in.
 pub fn in_page(start: u32, count: u32) -> u32
     ensures { result ≡ min (page - start % page) count }
 {
-    let left = PAGE as u32 - start % PAGE as u32;
-    if left < count { left } else { count }
+    (PAGE as u32 - start % PAGE as u32).min(count)
 }
 
 // A division by a stride, which is a power of two. The compiler cannot see that, so the code shifts.

@@ -1,2 +1,2 @@
 pub mod Claims
-pub mod Registers
+pub mod Refused

@@ -1,13 +1,13 @@
 -- RULES.md, "Registers": what a read gives.
-use Rattle.std.specs.Prelude.{ℕ, ◌+◌, ◌^◌, Bool, not, List, [], ◌∷◌, eqb}
+use Rattle.std.specs.Prelude.{ℕ, ◌+◌, ◌^◌, Bool, not, List, [], ◌∷◌, eqb, Result, Ok, Err}
 use Rattle.kit.specs.Choice.{when}
 use Rattle.kit.specs.Answer.{number_of}
 use Rattle.kit.specs.Settings.{among, legal_of}
+use Rattle.kit.specs.declared.answer.Refusal.{Refusal}
 use Rattle.state.specs.declared.engine.Control.{Control}
 use Rattle.state.specs.declared.engine.Status.{Status}
 use Rattle.state.specs.declared.engine.Phase.{Phase}
 use Rattle.state.specs.declared.engine.Engine.{Engine}
-use Rattle.reads.specs.declared.read.Reading.{Reading}
 use Rattle.state.specs.State.{busy_of, error_set_of, well_formed_of}
 use Rattle.state.specs.Bits.{tail_pntr_en, sg_mode, key_hole_read, key_hole_write, ioc_irq_en, err_irq_en, irq_threshold, idle, sg_incld, ioc_irq, err_irq, irq_threshold_sts, error_bit_of}
 
@@ -65,5 +65,6 @@ read_of s offset =
     (no_value 1)
 
 -- the code's result, as a caller sees it
-abbrev pub read_seen : Reading → Value
-read_seen r = record { answer = number_of r.answer; value = r.value }
+abbrev pub read_seen : Result ℕ Refusal → Value
+read_seen (Ok value) = gives value
+read_seen (Err refusal) = no_value (number_of refusal)

@@ -1,28 +1,20 @@
 // RULES.md, "Registers": reading a register.
 ghost use Rattle.std.specs.Prelude.{◌≡◌, ◌≤◌, ◌^◌};
-ghost use Rattle.reads.specs.Read.{bit_if, control_of, status_of, register_of, read_of, read_seen, gives};
+ghost use Rattle.reads.specs.Read.{bit_if, control_of, status_of, register_of, read_of, read_seen};
 
-use kit::answer::Answer;
-use kit::settings::legal;
+use kit::answer::Refusal;
 use state::bits::{
     ERR_IRQ, ERR_IRQ_EN, IDLE, IOC_IRQ, IOC_IRQ_EN, IRQ_THRESHOLD, IRQ_THRESHOLD_STS,
     KEY_HOLE_READ, KEY_HOLE_WRITE, SG_INCLD, SG_MODE, TAIL_PNTR_EN,
 };
-use state::engine::{Control, Engine, Phase, Status, bit_number, busy, error_set, well_formed};
-
-// The answer, and the value beside it, 0 beside a refusal.
-#[derive(Clone, Copy)]
-pub struct Reading {
-    pub answer: Answer,
-    pub value: u32,
-}
+use state::engine::{Control, Engine, Phase, Status, acceptable, bit_number, busy, error_set};
 
 // A bit's value if it is set, else 0.
 fn bit_if(set: bool, number: u32) -> u32
     requires { number ≤ 16 }
     ensures { (result ≡ bit_if set (2 ^ number)) × (result ≤ 2 ^ 16) }
 {
-    if set { 1 << number } else { 0 }
+    u32::from(set) << number
 }
 
 fn read_control(control: Control) -> u32
@@ -49,62 +41,28 @@ fn read_status(status: Status, phase: Phase) -> u32
         + bit_if(status.err, ERR_IRQ)
 }
 
-fn given(value: u32) -> Reading
-    ensures { read_seen result ≡ gives value }
-{
-    Reading {
-        answer: Answer::Done,
-        value,
-    }
-}
-
 // One arm a register, in PG034's order.
-fn read_register(engine: Engine, offset: u32) -> Reading
+#[tactic(auto, unfolding(crate::specs::Read::register_of))]
+fn read_register(engine: Engine, offset: u32) -> Result<u32, Refusal>
     ensures { read_seen result ≡ register_of engine offset }
 {
-    let status = engine.status;
-    let phase = engine.phase;
     match offset {
-        0x00 => given(read_control(engine.control)),
-        0x04 => given(read_status(status, phase)),
-        0x08 => given(engine.pointers.current),
-        0x10 => given(engine.pointers.tail),
-        0x18 => given(engine.simple.sa),
-        0x20 => given(engine.simple.da),
-        0x28 => given(engine.simple.btt),
-        0x0c | 0x14 | 0x1c | 0x24 => given(0),
-        0x01..=0x03
-        | 0x05..=0x07
-        | 0x09..=0x0b
-        | 0x0d..=0x0f
-        | 0x11..=0x13
-        | 0x15..=0x17
-        | 0x19..=0x1b
-        | 0x1d..=0x1f
-        | 0x21..=0x23
-        | 0x25..=0x27
-        | 0x29..=0xffffffff => Reading {
-            answer: Answer::Offset,
-            value: 0,
-        },
+        0x00 => Ok(read_control(engine.control)),
+        0x04 => Ok(read_status(engine.status, engine.phase)),
+        0x08 => Ok(engine.pointers.current),
+        0x10 => Ok(engine.pointers.tail),
+        0x18 => Ok(engine.simple.sa),
+        0x20 => Ok(engine.simple.da),
+        0x28 => Ok(engine.simple.btt),
+        0x0c | 0x14 | 0x1c | 0x24 => Ok(0),
+        _ => Err(Refusal::Offset),
     }
 }
 
 // Answers 1, 9 and 3 in their order, else the register's value.
-pub fn read(engine: Engine, offset: u32) -> Reading
+pub fn read(engine: Engine, offset: u32) -> Result<u32, Refusal>
     ensures { read_seen result ≡ read_of engine offset }
 {
-    if !legal(engine.settings) {
-        return Reading {
-            answer: Answer::Settings,
-            value: 0,
-        };
-    }
-    if !well_formed(engine) {
-        return Reading {
-            answer: Answer::State,
-            value: 0,
-        };
-    }
+    acceptable(engine)?;
     read_register(engine, offset)
 }

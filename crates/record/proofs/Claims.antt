@@ -11,10 +11,9 @@ use Rattle.kit.specs.Word.{word_at, half_at}
 use Rattle.kit.proofs.Choice.{cases, never}
 use Rattle.record.specs.declared.reading.Body.{Body}
 use Rattle.record.specs.declared.reading.Body.TheVariants.{Memory, Astray}
-use Rattle.record.specs.declared.reading.Reading.{Reading}
-use Rattle.record.specs.declared.reading.Reading.TheVariants.{Found, Refused}
+use Rattle.std.specs.Prelude.{Some, None}
 use Rattle.record.specs.Mark.{Kind, CF, C2, MM, SW, WR, RD, ST, AR, WR2, RD2, ST2, unknown, header_length, body_length, most_data}
-use Rattle.record.specs.Reading.{engine_there, for_engine, body_of, size_of, allowed, kind_at, reading_as, reading_of}
+use Rattle.record.specs.Reading.{Reading, engine_there, for_engine, body_of, size_of, allowed, kind_at, reading_as, reading_of}
 use Rattle.record.specs.Claims.{longest, Bytes, Within, shifted, Claims}
 use Rattle.record.proofs.Marks.{data-bounds, body-most, size-most}
 use Rattle.record.proofs.Whole.{whole, impossible}
@@ -80,10 +79,10 @@ module _ (s : List ℕ) (bytes : Bytes s) where
 -- ---- places
 
 shifted-zero : (r : Reading) → shifted 0 r ≡ r
-shifted-zero (Found r n) =
+shifted-zero (Some (r, n)) =
     let e : 0 + n ≡ n = omega arith in
-    ap (λ (m : ℕ). Found r m) e
-shifted-zero Refused = refl
+    ap (λ (m : ℕ). Some (r, m)) e
+shifted-zero None = refl
 
 module _ (s t : List ℕ) (p q m : ℕ) (agree : (i : ℕ) → i < m → get_or s (p + i) 0 ≡ get_or t (q + i) 0) (first two : Bool) where
   -- the readings of the kinds that both marks name

@@ -5,10 +5,10 @@ use mathlib.Core.List.{List}
 use Prim.Native.Nat.{ℕ, ◌+◌, ◌≤◌, ◌<◌}
 use lib.Dec.{eqb, leb, ltb}
 use lib.ListN.{length}
-use borrow.Author.Tests.{le-leb, lt-leb, eq-eqb, ne_eqb, eqb-true, leb-true, ltb-true}
+use borrow.Author.Tests.{eqb-true, leb-true, ltb-true}
 use Rattle.kit.specs.Choice.{both}
 use Rattle.kit.specs.Word.{word_at, half_at}
-use Rattle.kit.proofs.Choice.{yes, no, both_left, both_right}
+use Rattle.kit.proofs.Choice.{both_left, both_right}
 use Rattle.record.specs.Mark.{WR, AR, kind_of, letters}
 use Rattle.record.specs.Reading.{body_of, found_of, kind_at, reading_of}
 use Rattle.record.specs.Follows.{follows_of}
@@ -16,15 +16,6 @@ use Rattle.record.proofs.Marks.{kind-by, in_both}
 use Rattle.record.proofs.Readings.{found, of-kind}
 
 module _ (s : List ℕ) (at mark size before : ℕ) where
-  pub cut_short : length s < at + size → false ≡ follows_of s at mark size before
-  cut_short h = no _ (lt-leb (at + size) (length s) h) refl
-
-  pub other-mark : at + size ≤ length s → (half_at s at ≡ mark → ⊥) → false ≡ follows_of s at mark size before
-  other-mark h n = yes _ (le-leb (at + size) (length s) h) (no _ (ne_eqb (half_at s at) mark n) refl)
-
-  pub by-sequence : at + size ≤ length s → half_at s at ≡ mark → {n : ℕ} → n ≡ word_at s (at + 2) → ltb before n ≡ follows_of s at mark size before
-  by-sequence h e f = yes _ (le-leb (at + size) (length s) h) (yes _ (eq-eqb (half_at s at) mark e) (ap (ltb before) f))
-
   module _ (f : follows_of s at mark size before ≡ true) where
     rest : both (eqb (half_at s at) mark) (ltb before (word_at s (at + 2))) ≡ true
     rest = both_right (leb (at + size) (length s)) _ f

@@ -11,10 +11,9 @@ use Rattle.kit.specs.Choice.{when}
 use Rattle.kit.specs.Word.{joined, word_at, half_at}
 use Rattle.record.specs.declared.reading.Body.{Body}
 use Rattle.record.specs.declared.reading.Body.TheVariants.{Settings, Memory, Window, Write, Read, Steps}
-use Rattle.record.specs.declared.reading.Reading.{Reading}
-use Rattle.record.specs.declared.reading.Reading.TheVariants.{Found, Refused}
+use Rattle.std.specs.Prelude.{Some, None}
 use Rattle.record.specs.Mark.{Kind, CF, C2, MM, SW, WR, RD, ST, AR, WR2, RD2, ST2, unknown, kind_of, of_trace, body_length, header_length, data_allowed}
-use Rattle.record.specs.Reading.{clock_at, for_engine, body_of, data_length, size_of, allowed, reading_as, kind_at}
+use Rattle.record.specs.Reading.{Reading, clock_at, for_engine, body_of, data_length, size_of, allowed, reading_as, kind_at}
 use Rattle.record.specs.Claims.{shifted}
 
 pub leb-same : (a b c d : ℕ) → (a ≤ b → c ≤ d) → (c ≤ d → a ≤ b) → leb a b ≡ leb c d
@@ -28,7 +27,7 @@ leb-same a b c d f g = go (leb a b) refl (leb c d) refl
 
 -- a reading from its parts
 abbrev built : Bool → Bool → ℕ → Body → ℕ → Reading
-built allows fits sequence body next = when allows (when fits (Found (record { sequence = sequence; body = body }) next) Refused) Refused
+built allows fits sequence body next = when allows (when fits (Some (record { sequence = sequence; body = body }, next)) None) None
 
 shifted-built : (d : ℕ) (a f : Bool) (q : ℕ) (b : Body) (n : ℕ) → built a f q b (d + n) ≡ shifted d (built a f q b n)
 shifted-built d true true q b n = refl

@@ -1,14 +1,14 @@
--- Laws of the kinds: a mark that is none of the eight, the lengths of MM, the longest body and the longest record.
-use mathlib.Core.Path.{◌≡◌, refl, sym, ap}
+-- Laws of the kinds: the kind of a mark, in a trace of one engine or of two, the lengths of MM, the longest body and the longest record.
+use mathlib.Core.Path.{◌≡◌, refl, ap}
 use mathlib.Core.Bool.{Bool, true, false}
 use mathlib.Core.List.{List}
-use Prim.Native.Nat.{ℕ, ◌+◌, ◌≤◌, ◌<◌}
+use Prim.Native.Nat.{ℕ, ◌+◌, ◌≤◌}
 use native.Mathlib.Omega.{arith}
 use lib.Dec.{leb}
-use borrow.Author.Tests.{ne_eqb, le-leb, lt-leb, leb-true}
+use borrow.Author.Tests.{leb-true}
 use Rattle.kit.specs.Word.{half_at}
-use Rattle.kit.proofs.Choice.{no, cases, both_left, both_right, both-join, never}
-use Rattle.record.specs.Mark.{Kind, CF, C2, MM, SW, WR, RD, ST, AR, WR2, RD2, ST2, unknown, kind_of, of_trace, body_length, letters, most_data, data_allowed}
+use Rattle.kit.proofs.Choice.{both_left, both_right, never}
+use Rattle.record.specs.Mark.{Kind, CF, C2, MM, SW, WR, RD, ST, AR, WR2, RD2, ST2, unknown, kind_of, of_trace, body_length, most_data, data_allowed}
 use Rattle.record.specs.Reading.{size_of, allowed}
 use Rattle.record.specs.Claims.{longest}
 
@@ -19,22 +19,6 @@ kind-by two = ap (λ (n : ℕ). of_trace two (kind_of n))
 pub in_both : (k : Kind) → of_trace true k ≡ k → (two : Bool) → of_trace two k ≡ k
 in_both k e true = e
 in_both k e false = refl
-
-pub kind-unknown : (m : ℕ) → (m ≡ letters 67 70 → ⊥) → (m ≡ letters 67 50 → ⊥) → (m ≡ letters 77 77 → ⊥) → (m ≡ letters 83 87 → ⊥) → (m ≡ letters 87 82 → ⊥) → (m ≡ letters 82 68 → ⊥)
-    → (m ≡ letters 83 84 → ⊥) → (m ≡ letters 65 82 → ⊥) → unknown ≡ kind_of m
-unfolding kind_of
-kind-unknown m a h b c d e f g =
-    no _ (ne_eqb m _ a)
-    (no _ (ne_eqb m _ h) (no _ (ne_eqb m _ b) (no _ (ne_eqb m _ c) (no _ (ne_eqb m _ d) (no _ (ne_eqb m _ e) (no _ (ne_eqb m _ f) (no _ (ne_eqb m _ g) refl)))))))
-
-pub data-few : (n : ℕ) → n < 1 → data_allowed n ≡ false
-data-few n h = sym (no _ (lt-leb 1 n h) refl)
-
-pub data-many : (n : ℕ) → most_data < n → data_allowed n ≡ false
-data-many n h = cases (λ (t : Bool). t ≡ false) (leb 1 n) (λ _. lt-leb n most_data h) (λ _. refl)
-
-pub data-fits : (n : ℕ) → 1 ≤ n → n ≤ most_data → data_allowed n ≡ true
-data-fits n h k = both-join (le-leb 1 n h) (le-leb n most_data k)
 
 pub data-bounds : (n : ℕ) → data_allowed n ≡ true → (1 ≤ n) × (n ≤ most_data)
 data-bounds n e =

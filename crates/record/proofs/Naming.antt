@@ -8,15 +8,15 @@ use native.Mathlib.Omega.{arith}
 use lib.Dec.{eqb, leb}
 use lib.ListN.{length, get_or, drop, length-append, length-drop, get_or-append}
 use lib.Seq.{get_or-drop}
-use borrow.Author.Tests.{le-leb, lt-leb, eq-eqb, ne_eqb, eqb-true}
+use borrow.Author.Tests.{le-leb, eq-eqb, ne_eqb, eqb-true}
 use Rattle.kit.specs.Choice.{when, both, either}
 use Rattle.kit.specs.Word.{half_at}
 use Rattle.kit.proofs.Choice.{yes, no, cases, both_left, both_right, never}
 use Rattle.record.specs.declared.reading.Body.{Body}
 use Rattle.record.specs.declared.reading.Body.TheVariants.{Astray}
 use Rattle.record.specs.declared.reading.Record.{Record}
-use Rattle.record.specs.declared.reading.Reading.TheVariants.{Found}
-use Rattle.record.specs.Mark.{Kind, CF, C2, MM, SW, WR, RD, ST, AR, WR2, RD2, ST2, unknown, kind_of, of_trace, letters}
+use Rattle.std.specs.Prelude.{Some}
+use Rattle.record.specs.Mark.{Kind, CF, C2, MM, SW, WR, RD, ST, AR, WR2, RD2, ST2, unknown, kind_of, of_trace}
 use Rattle.record.specs.Reading.{engine_there, for_engine, body_of, size_of, allowed, kind_at, reading_of}
 use Rattle.record.specs.Names.{carries_engine, names_of, asks_engine, Names}
 use Rattle.record.proofs.Local.{leb-same, kind-same}
@@ -30,32 +30,12 @@ same_name s t p q n agree fits =
     (ap₂ both (ap (λ (b : ℕ). eqb b n) (agree 6 (omega arith))) (ap carries_engine (kind-same s t p q 7 agree true (omega arith))))
 
 module _ (s : List ℕ) (at n : ℕ) where
-  pub short-names : length s < at + 7 → false ≡ names_of s at n
-  short-names h = no _ (lt-leb (at + 7) (length s) h) refl
-
-  pub other-named : at + 7 ≤ length s → (get_or s (at + 6) 0 ≡ n → ⊥) → false ≡ names_of s at n
-  other-named h d = yes _ (le-leb (at + 7) (length s) h) (no _ (ne_eqb (get_or s (at + 6) 0) n d) refl)
-
   pub by_kind : at + 7 ≤ length s → get_or s (at + 6) 0 ≡ n → {r : Bool} → r ≡ carries_engine (kind_at s at true) → r ≡ names_of s at n
   by_kind h e k = yes _ (le-leb (at + 7) (length s) h) (yes _ (eq-eqb (get_or s (at + 6) 0) n e) k)
 
   module _ (named : names_of s at n ≡ true) where
     pub named-number : get_or s (at + 6) 0 ≡ n
     named-number = eqb-true (get_or s (at + 6) 0) n (both_left (eqb (get_or s (at + 6) 0) n) _ (both_right (leb (at + 7) (length s)) _ named))
-
--- a mark that is not WR, RD or ST
-pub no_number : (m : ℕ) → (m ≡ letters 87 82 → ⊥) → (m ≡ letters 82 68 → ⊥) → (m ≡ letters 83 84 → ⊥) → carries_engine (of_trace true (kind_of m)) ≡ false
-unfolding kind_of
-no_number m a b c =
-    let P : Kind → Type 0 = λ (k : Kind). carries_engine (of_trace true k) ≡ false in
-    cases P (eqb m (letters 67 70)) (λ _. refl)
-    (λ _. cases P (eqb m (letters 67 50)) (λ _. refl)
-    (λ _. cases P (eqb m (letters 77 77)) (λ _. refl)
-    (λ _. cases P (eqb m (letters 83 87)) (λ _. refl)
-    (λ _. cases P (eqb m (letters 87 82)) (λ e. absurd (a (eqb-true m _ e)))
-    (λ _. cases P (eqb m (letters 82 68)) (λ e. absurd (b (eqb-true m _ e)))
-    (λ _. cases P (eqb m (letters 83 84)) (λ e. absurd (c (eqb-true m _ e)))
-    (λ _. cases P (eqb m (letters 65 82)) (λ _. refl) (λ _. refl))))))))
 
 -- a record of a kind without a number is for no engine
 pub unnamed : (s : List ℕ) (at n : ℕ) → carries_engine (kind_at s at true) ≡ false → names_of s at n ≡ false
@@ -106,7 +86,7 @@ one-or-two n e = go (eqb n 1) refl e
     go true p q = inl (eqb-true n 1 p)
     go false p q = inr (eqb-true n 2 q)
 
-found-named : (s : List ℕ) (at : ℕ) (first : Bool) (r : Record) (next : ℕ) → reading_of s at first true ≡ Found r next → asks_engine r.body ≡ true
+found-named : (s : List ℕ) (at : ℕ) (first : Bool) (r : Record) (next : ℕ) → reading_of s at first true ≡ Some (r, next) → asks_engine r.body ≡ true
     → (names_of s at 1 ≡ true) ⊎ (names_of s at 2 ≡ true)
 found-named s at first r next e asks = go (one-or-two (get_or s (at + 6) 0) number.there)
   where

@@ -2,27 +2,19 @@
 use mathlib.Core.Path.{◌≡◌, refl, sym, ap, ap₂, ◌∙◌}
 use mathlib.Core.Bool.{Bool, true, false}
 use mathlib.Core.List.{List, ◌++◌}
-use Prim.Native.Nat.{ℕ, ◌+◌, ◌≤◌, ◌<◌}
+use Prim.Native.Nat.{ℕ, ◌+◌, ◌<◌}
 use native.Mathlib.Omega.{arith}
 use lib.Dec.{leb}
 use lib.ListN.{length, get_or, drop, length-append, length-drop, get_or-append}
 use lib.Seq.{get_or-drop}
-use borrow.Author.Tests.{le-leb, lt-leb}
+use borrow.Author.Tests.{le-leb}
 use Rattle.kit.specs.Choice.{when, both}
-use Rattle.kit.specs.Word.{half_at}
-use Rattle.kit.proofs.Choice.{yes, no, both-join}
+use Rattle.kit.proofs.Choice.{yes, both-join}
 use Rattle.record.specs.Mark.{kind_of}
 use Rattle.record.specs.Reading.{reading_of}
 use Rattle.record.specs.Starts.{settings_mark, settings_at, older_settings, converted_of, Starts}
 use Rattle.record.proofs.Local.{leb-same, half-same}
 use Rattle.record.proofs.Claims.{claims}
-
-module _ (s : List ℕ) (at : ℕ) where
-  pub past_end : length s < at + 2 → false ≡ settings_at s at
-  past_end h = no _ (lt-leb (at + 2) (length s) h) refl
-
-  pub by-mark : at + 2 ≤ length s → {m : ℕ} → m ≡ half_at s at → settings_mark m ≡ settings_at s at
-  by-mark h e = yes _ (le-leb (at + 2) (length s) h) (ap settings_mark e)
 
 -- the same two bytes at p in s and at q in t, in both or in neither
 same_start : (s t : List ℕ) (p q : ℕ) → ((i : ℕ) → i < 2 → get_or s (p + i) 0 ≡ get_or t (q + i) 0) → leb (p + 2) (length s) ≡ leb (q + 2) (length t) → settings_at s p ≡ settings_at t q

@@ -10,7 +10,7 @@ use borrow.Author.Tests.{leb-true}
 use Rattle.kit.specs.Choice.{when}
 use Rattle.kit.specs.Word.{word_at}
 use Rattle.record.specs.declared.reading.Record.{Record}
-use Rattle.record.specs.declared.reading.Reading.TheVariants.{Found, Refused}
+use Rattle.std.specs.Prelude.{Some, None}
 use Rattle.record.specs.Reading.{body_of, size_of, allowed, found_of, kind_at, reading_of}
 
 pub record Whole (s : List ℕ) (at : ℕ) (first two : Bool) (r : Record) (n : ℕ) : Type 0 where
@@ -23,27 +23,24 @@ pub record Whole (s : List ℕ) (at : ℕ) (first two : Bool) (r : Record) (n : 
 pub impossible : ◌≡◌ {A = ℕ} 0 1 → ⊥
 impossible e = omega arith
 
-same-record : {a b : Record} {m n : ℕ} → Found a m ≡ Found b n → b ≡ a
-same-record e = cc
+same : {a b : Record × ℕ} → Some a ≡ Some b → b ≡ a
+same e = cc
 
-same_next : {a b : Record} {m n : ℕ} → Found a m ≡ Found b n → n ≡ m
-same_next e = cc
-
-not-refused : {r : Record} {n : ℕ} → Refused ≡ Found r n → ⊥
+not-refused : {a : Record × ℕ} → None ≡ Some a → ⊥
 not-refused e = impossible (cc)
 
-pub whole : (s : List ℕ) (at : ℕ) (first two : Bool) (r : Record) (n : ℕ) → reading_of s at first two ≡ Found r n → Whole s at first two r n
+pub whole : (s : List ℕ) (at : ℕ) (first two : Bool) (r : Record) (n : ℕ) → reading_of s at first two ≡ Some (r, n) → Whole s at first two r n
 unfolding reading_of
 whole s at first two r n = go (allowed s at first (kind_at s at two)) refl (leb (at + size_of s at (kind_at s at two)) (length s)) refl
   where
     go : (t : Bool) → allowed s at first (kind_at s at two) ≡ t → (u : Bool) → leb (at + size_of s at (kind_at s at two)) (length s) ≡ u
-        → when t (when u (found_of s at (size_of s at (kind_at s at two)) (body_of s at (kind_at s at two))) Refused) Refused ≡ Found r n → Whole s at first two r n
+        → when t (when u (found_of s at (size_of s at (kind_at s at two)) (body_of s at (kind_at s at two))) None) None ≡ Some (r, n) → Whole s at first two r n
     go true p true q e = record {
       allows = p;
       fits = leb-true _ _ q;
-      sequence-is = λ i. (same-record e i).sequence;
-      body_is = λ i. (same-record e i).body;
-      next-is = same_next e;
+      sequence-is = λ i. (same e i).0.sequence;
+      body_is = λ i. (same e i).0.body;
+      next-is = λ i. (same e i).1;
     }
     go true p false q e = absurd (not-refused e)
     go false p u q e = absurd (not-refused e)

@@ -1,13 +1,11 @@
 -- What the definitions of this crate have to imply: proved in proofs/Claims.antt.
-use Rattle.std.specs.Prelude.{◌≡◌, Bool, List, ◌++◌, ℕ, ◌+◌, ◌^◌, ◌≤◌, ◌<◌, length, get_or, drop}
+use Rattle.std.specs.Prelude.{Some, None, ◌≡◌, Bool, List, ◌++◌, ℕ, ◌+◌, ◌^◌, ◌≤◌, ◌<◌, length, get_or, drop}
 use Rattle.monitor.specs.declared.clock.Clock.{Clock}
 use Rattle.record.specs.declared.reading.Body.{Body}
 use Rattle.record.specs.declared.reading.Body.TheVariants.{Settings, Memory, Window, Write, Read, Steps, Astray}
 use Rattle.record.specs.declared.reading.Record.{Record}
-use Rattle.record.specs.declared.reading.Reading.{Reading}
-use Rattle.record.specs.declared.reading.Reading.TheVariants.{Found, Refused}
 use Rattle.record.specs.Mark.{MM, most_data, header_length, body_length}
-use Rattle.record.specs.Reading.{reading_of}
+use Rattle.record.specs.Reading.{Reading, reading_of}
 
 -- the longest record: MM with all its data
 abbrev pub longest : ℕ
@@ -43,22 +41,22 @@ Within (Body.Clock bits clock) = ClockWithin bits clock
 
 -- the same record, its next place reckoned from a place d bytes before
 abbrev pub shifted : ℕ → Reading → Reading
-shifted d (Found r n) = Found r (d + n)
-shifted d Refused = Refused
+shifted d (Some (r, n)) = Some (r, d + n)
+shifted d None = None
 
 pub record Claims : Type 0 where
   -- a record found has a byte at least, lies inside, and is no longer than the longest
-  pub inside : (s : List ℕ) (at : ℕ) (first two : Bool) (r : Record) (n : ℕ) → reading_of s at first two ≡ Found r n
+  pub inside : (s : List ℕ) (at : ℕ) (first two : Bool) (r : Record) (n : ℕ) → reading_of s at first two ≡ Some (r, n)
       → (at < n) × (n ≤ length s) × (n ≤ at + longest)
   -- an MM record has 1..1024 bytes of data, from at + 12 up to the next place
-  pub memory : (s : List ℕ) (at : ℕ) (first two : Bool) (r : Record) (n address size : ℕ) → reading_of s at first two ≡ Found r n
+  pub memory : (s : List ℕ) (at : ℕ) (first two : Bool) (r : Record) (n address size : ℕ) → reading_of s at first two ≡ Some (r, n)
       → r.body ≡ Memory address size → (at + 12 + size ≡ n) × (1 ≤ size) × (size ≤ most_data)
   -- the fields are u8, u16 and u32
-  pub ranges : (s : List ℕ) (at : ℕ) (first two : Bool) (r : Record) (n : ℕ) → Bytes s → reading_of s at first two ≡ Found r n
+  pub ranges : (s : List ℕ) (at : ℕ) (first two : Bool) (r : Record) (n : ℕ) → Bytes s → reading_of s at first two ≡ Some (r, n)
       → (r.sequence < 2 ^ 32) × Within r.body
   -- bytes after a record found do not change it
-  pub appended : (s more : List ℕ) (at : ℕ) (first two : Bool) (r : Record) (n : ℕ) → reading_of s at first two ≡ Found r n
-      → reading_of (s ++ more) at first two ≡ Found r n
+  pub appended : (s more : List ℕ) (at : ℕ) (first two : Bool) (r : Record) (n : ℕ) → reading_of s at first two ≡ Some (r, n)
+      → reading_of (s ++ more) at first two ≡ Some (r, n)
   -- where the longest record has room, bytes after it change nothing, a refusal neither
   pub settled : (s more : List ℕ) (at : ℕ) (first two : Bool) → at + longest ≤ length s
       → reading_of (s ++ more) at first two ≡ reading_of s at first two

@@ -1,10 +1,9 @@
 -- RULES.md, "Trace and listing": the engine that a record of a trace of two engines is for. Proved in proofs/Naming.antt.
-use Rattle.std.specs.Prelude.{ℕ, ◌+◌, ◌≤◌, ◌≡◌, ◌⊎◌, Bool, true, false, List, ◌++◌, eqb, leb, length, get_or, drop}
+use Rattle.std.specs.Prelude.{Some, ℕ, ◌+◌, ◌≤◌, ◌≡◌, ◌⊎◌, Bool, true, false, List, ◌++◌, eqb, leb, length, get_or, drop}
 use Rattle.kit.specs.Choice.{both}
 use Rattle.record.specs.declared.reading.Body.{Body}
 use Rattle.record.specs.declared.reading.Body.TheVariants.{Settings, Memory, Window, Write, Read, Steps, Astray}
 use Rattle.record.specs.declared.reading.Record.{Record}
-use Rattle.record.specs.declared.reading.Reading.TheVariants.{Found}
 use Rattle.record.specs.Mark.{Kind, CF, C2, MM, SW, WR, RD, ST, AR, WR2, RD2, ST2, unknown}
 use Rattle.record.specs.Reading.{kind_at, reading_of}
 
@@ -45,5 +44,5 @@ pub record Names : Type 0 where
   -- no record is for both
   pub one_only : (s : List ℕ) (at : ℕ) → names_of s at 1 ≡ true → names_of s at 2 ≡ false
   -- one that asks something of an engine is for engine 1 or 2
-  pub there : (s : List ℕ) (at : ℕ) (first : Bool) (r : Record) (next : ℕ) → reading_of s at first true ≡ Found r next
+  pub there : (s : List ℕ) (at : ℕ) (first : Bool) (r : Record) (next : ℕ) → reading_of s at first true ≡ Some (r, next)
       → asks_engine r.body ≡ true → (names_of s at 1 ≡ true) ⊎ (names_of s at 2 ≡ true)

@@ -1,13 +1,16 @@
 -- RULES.md, "Trace and listing": a record's body, what answer 10 refuses, and what reading a record gives.
-use Rattle.std.specs.Prelude.{ℕ, ◌+◌, ◌/◌, ◌%◌, Bool, true, false, List, eqb, leb, length, get_or}
+use Rattle.std.specs.Prelude.{ℕ, Option, Some, None, ◌+◌, ◌/◌, ◌%◌, Bool, true, false, List, eqb, leb, length, get_or}
 use Rattle.kit.specs.Choice.{when, either}
 use Rattle.kit.specs.Word.{word_at, half_at}
 use Rattle.monitor.specs.declared.clock.Clock.{Clock}
 use Rattle.record.specs.declared.reading.Body.{Body}
 use Rattle.record.specs.declared.reading.Body.TheVariants.{Settings, Memory, Window, Write, Read, Steps, Astray}
-use Rattle.record.specs.declared.reading.Reading.{Reading}
-use Rattle.record.specs.declared.reading.Reading.TheVariants.{Found, Refused}
+use Rattle.record.specs.declared.reading.Record.{Record}
 use Rattle.record.specs.Mark.{Kind, CF, C2, MM, SW, WR, RD, ST, AR, WR2, RD2, ST2, unknown, kind_of, of_trace, body_length, header_length, data_allowed}
+
+-- what reading gives: a record and the place after it, or none, which is answer 10
+abbrev pub Reading : Type 0
+Reading = Option (Record × ℕ)
 
 -- the clock of the AR record at `at`: bits 0 reset-high, 1 valid, 2 ready; a byte a field; id and address
 abbrev pub clock_at : List ℕ → ℕ → ℕ → Clock
@@ -90,14 +93,14 @@ allowed s at first unknown = false
 
 -- a record of `count` bytes: its sequence number, its body, and the next place
 abbrev pub found_of : List ℕ → ℕ → ℕ → Body → Reading
-found_of s at count b = Found (record { sequence = word_at s (at + 2); body = b }) (at + count)
+found_of s at count b = Some (record { sequence = word_at s (at + 2); body = b }, at + count)
 
 -- the record at `at`, taken as one of kind k: refused where it is not allowed or cut short
 abbrev pub reading_as : List ℕ → ℕ → Bool → Kind → Reading
 reading_as s at first k =
     when (allowed s at first k)
-    (when (leb (at + size_of s at k) (length s)) (found_of s at (size_of s at k) (body_of s at k)) Refused)
-    Refused
+    (when (leb (at + size_of s at k) (length s)) (found_of s at (size_of s at k) (body_of s at k)) None)
+    None
 
 -- the kind that the mark at `at` names, in a trace of two engines or of one
 abbrev pub kind_at : List ℕ → ℕ → Bool → Kind

@@ -1,9 +1,8 @@
 -- RULES.md, "Trace and listing": what a trace starts with, and the converter of traces that relied on 16 beats.
-use Rattle.std.specs.Prelude.{ℕ, ◌+◌, ◌≤◌, ◌≡◌, Bool, true, false, List, [], ◌∷◌, ◌++◌, eqb, leb, length, drop}
+use Rattle.std.specs.Prelude.{Some, ℕ, ◌+◌, ◌≤◌, ◌≡◌, Bool, true, false, List, [], ◌∷◌, ◌++◌, eqb, leb, length, drop}
 use Rattle.kit.specs.Choice.{when, both, either}
 use Rattle.kit.specs.Word.{half_at}
 use Rattle.record.specs.declared.reading.Body.TheVariants.{Settings}
-use Rattle.record.specs.declared.reading.Reading.TheVariants.{Found}
 use Rattle.record.specs.Mark.{letters}
 use Rattle.record.specs.Reading.{reading_of}
 
@@ -40,7 +39,7 @@ pub record Starts : Type 0 where
   pub dropped : (s : List ℕ) (at : ℕ) → at ≤ length s → settings_at s at ≡ settings_at (drop at s) 0
   pub settled : (s more : List ℕ) (at : ℕ) → at + 2 ≤ length s → settings_at (s ++ more) at ≡ settings_at s at
   -- what the converter puts before a trace is read as CF 0 (4,16), and the trace follows
-  pub put : (t : List ℕ) → reading_of (older_settings ++ t) 0 true false ≡ Found (record { sequence = 0; body = Settings false 4 16 }) 10
+  pub put : (t : List ℕ) → reading_of (older_settings ++ t) 0 true false ≡ Some (record { sequence = 0; body = Settings false 4 16 }, 10)
   -- a converted trace starts with CF, so twice converted is once converted
   pub starts : (t : List ℕ) → settings_at (converted_of t) 0 ≡ true
   pub twice : (t : List ℕ) → converted_of (converted_of t) ≡ converted_of t

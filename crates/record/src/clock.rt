@@ -3,7 +3,7 @@ ghost use Rattle.std.specs.Prelude.{◌≡◌, true, ◌+◌, ◌≤◌, ◌<◌
 ghost use Rattle.record.specs.Mark.{AR};
 ghost use Rattle.record.specs.Reading.{clock_at, reading_as};
 
-use crate::found::found;
+use crate::found::{found, whole};
 use crate::reading::{Body, Reading};
 use crate::size;
 use kit::word;
@@ -38,12 +38,9 @@ pub fn fields(input: &[u8], at: usize, bits: u32) -> Clock
 }
 
 pub fn clock(input: &[u8], at: usize) -> Reading
-    requires { at + 6 ≤ length input.now }
     ensures { result ≡ reading_as input.now at true AR }
 {
-    if input.len() - at < size::AR {
-        return Reading::Refused;
-    }
+    whole(input, at, size::AR)?;
     let bits = byte(input, at + 6);
     let clock = fields(input, at, bits);
     found(input, at, size::AR, Body::Clock { bits, clock })

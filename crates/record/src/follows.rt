@@ -9,11 +9,7 @@ pub fn follows(input: &[u8], at: usize, mark: u16, size: usize, before: u32) -> 
     requires { (at ≤ length input.now) × (6 ≤ size) }
     ensures { result ≡ follows_of input.now at mark size before }
 {
-    if input.len() - at < size {
-        return false;
-    }
-    if word::load_half(input, at) != mark {
-        return false;
-    }
-    before < word::load(input, at + 2)
+    size <= input.len() - at
+        && word::load_half(input, at) == mark
+        && before < word::load(input, at + 2)
 }

@@ -2,7 +2,8 @@
 use monitor::clock::Clock;
 
 // One case a mark: CF and C2 (of two engines), MM, SW, WR, RD, ST, AR; a WR, RD or ST for an engine that is not there is
-// astray. MM's bytes stay in the input, from the mark's place + 12 up to the next.
+// astray, which is a record with an answer of its own, 21, and not the lack of one. MM's bytes stay in the input, from the
+// mark's place + 12 up to the next.
 #[derive(Clone, Copy)]
 pub enum Body {
     Settings { two: bool, width: u32, beats: u32 },
@@ -21,9 +22,5 @@ pub struct Record {
     pub body: Body,
 }
 
-// `next` is the place after the record; Refused is answer 10.
-#[derive(Clone, Copy)]
-pub enum Reading {
-    Found { record: Record, next: usize },
-    Refused,
-}
+// The record and the place after it; none is answer 10.
+pub type Reading = Option<(Record, usize)>;

@@ -1,4 +1,5 @@
-// RULES.md, "Trace and listing": the bytes of each kind of record, mark and sequence number included.
+// RULES.md, "Trace and listing": the bytes of each kind of record, mark and sequence number included; an engine number is
+// one byte more.
 pub const HEADER: usize = 6;
 
 // C2 too.
@@ -15,10 +16,3 @@ pub const RD: usize = 8;
 pub const ST: usize = 8;
 
 pub const AR: usize = 22;
-
-// With an engine number.
-pub const WR2: usize = 13;
-
-pub const RD2: usize = 9;
-
-pub const ST2: usize = 9;

@@ -2,6 +2,7 @@
 ghost use Rattle.std.specs.Prelude.{◌≡◌};
 ghost use Rattle.record.specs.Starts.{settings_at};
 
+use crate::found::whole;
 use crate::mark;
 use kit::word;
 
@@ -9,15 +10,5 @@ use kit::word;
 pub fn settings_at(input: &[u8], at: usize) -> bool
     ensures { result ≡ settings_at input.now at }
 {
-    if input.len() < at {
-        return false;
-    }
-    if input.len() - at < 2 {
-        return false;
-    }
-    let letters = word::load_half(input, at);
-    if letters == mark::CF {
-        return true;
-    }
-    letters == mark::C2
+    whole(input, at, 2).is_some() && matches!(word::load_half(input, at), mark::CF | mark::C2)
 }

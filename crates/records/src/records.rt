@@ -1,6 +1,5 @@
 // The next record: read, judged and applied, its line put; a WR or an AR with those of its kind that follow.
-ghost use Rattle.std.specs.Prelude.{◌≡◌, true, false, ◌+◌, ◌-◌, ◌≤◌, ◌<◌, ◌^◌, length};
-ghost use Rattle.digits.specs.Tables.{Tables};
+ghost use Rattle.std.specs.Prelude.{◌≡◌, true, false, ◌+◌, ◌-◌, ◌≤◌, length};
 ghost use Rattle.session.specs.declared.Mode.TheVariants.{Records};
 ghost use Rattle.kit.specs.Answer.{number_of};
 ghost use Rattle.session.specs.Chosen.{called_of};
@@ -9,28 +8,22 @@ ghost use Rattle.session.specs.Turn.{stale_of};
 ghost use Rattle.session.specs.Pass.{ready_of, TakesBeside};
 ghost use Rattle.records.specs.Tells.{Tells};
 
+use digits::tables::DigitTables;
 use effects::effect;
-use kit::answer::Answer;
+use kit::answer::Refusal;
 use listing::line::put_line;
 use record::read;
-use record::reading::{Body, Reading};
+use record::reading::Body;
 use session::bad::bad_line;
 use session::chosen::is_two;
+use session::part::Part;
 use session::{Effect, Mode, Passed, Session, under_way};
 use watch::clocks;
 use writes::writes;
 
 // Puts a record's line; an ST has none of its own.
-fn tell(
-    effect: Effect,
-    at: usize,
-    leading: &[u32; 1000],
-    padded: &[u32; 1000],
-    out: &mut [u8],
-    put: usize,
-) -> Passed
-    requires tables { Tables leading.now padded.now }
-    requires put_in_bounds { put + 64 ≤ length out.old }
+fn tell(effect: Effect, at: usize, tables: &DigitTables, out: &mut [u8], put: usize) -> Passed
+    requires { put + 64 ≤ length out.old }
     ensures { Tells effect at out.old put result out.new }
 {
     let session = effect.session;
@@ -39,27 +32,25 @@ fn tell(
         return Passed { session, at, put };
     }
     let line = effect.line;
-    let put = put_line(leading, padded, out, put, line);
+    let put = put_line(tables, out, put, line);
     Passed { session, at, put }
 }
 
 // Puts the last line. It is apart from `tell` so that that one has one caller, and is compiled into it.
 fn refuse(
     session: Session,
-    answer: Answer,
+    refusal: Refusal,
     position: u64,
     at: usize,
-    leading: &[u32; 1000],
-    padded: &[u32; 1000],
+    tables: &DigitTables,
     out: &mut [u8],
     put: usize,
 ) -> Passed
-    requires tables { Tables leading.now padded.now }
-    requires put_in_bounds { put + 64 ≤ length out.old }
-    ensures { Tells (bad_of session (number_of answer) position) at out.old put result out.new }
+    requires { put + 64 ≤ length out.old }
+    ensures { Tells (bad_of session (number_of refusal) position) at out.old put result out.new }
 {
-    let line = bad_line(session.sequence, answer, position);
-    let put = put_line(leading, padded, out, put, line);
+    let line = bad_line(session.sequence, Err(refusal), position);
+    let put = put_line(tables, out, put, line);
     let session = Session {
         mode: Mode::Over,
         ..session
@@ -71,69 +62,36 @@ fn refuse(
 fn stale(before: u32, sequence: u32, body: Body) -> bool
     ensures { result ≡ stale_of before sequence body }
 {
-    if before < sequence {
-        return false;
-    }
-    match body {
-        Body::Settings {
-            two: _,
-            width: _,
-            beats: _,
-        } => false,
-        _ => true,
-    }
+    sequence <= before && !matches!(body, Body::Settings { .. })
 }
 
-// A record that is no record, or out of sequence, is the last line; so is one for an engine that is not there. `base` is the place of the input in the whole trace.
+// A record that is no record, or out of sequence, is the last line; so is one for an engine that is not there.
 pub fn records(
     session: Session,
-    base: u64,
-    input: &[u8],
+    part: Part<'_>,
     at: usize,
-    ended: bool,
     memory: &mut [u8],
     windows: &mut [u32],
-    leading: &[u32; 1000],
-    padded: &[u32; 1000],
+    tables: &DigitTables,
     out: &mut [u8],
     put: usize,
 ) -> Passed
-    requires mode_value { (session.mode ≡ Records) × (ready_of Records (length input.now - at) ended ≡ true) × (called_of session.chosen input.now at ≡ false) }
-    requires at_in_bounds { (at ≤ length input.now) × (base + length input.now < 2 ^ 64) }
+    requires mode_value { (session.mode ≡ Records) × (ready_of Records (length part.input.now - at) part.ended ≡ true) × (called_of session.chosen part.input.now at ≡ false) }
+    requires at_in_bounds { at ≤ length part.input.now }
     requires in_bounds { 32 ≤ length windows.old }
-    requires tables { Tables leading.now padded.now }
     requires put_in_bounds { put + 64 ≤ length out.old }
-    ensures { TakesBeside base input.now ended session at memory.old windows.old out.old put result memory.new windows.new out.new }
+    ensures { TakesBeside part.entry.base part.entry.input.now part.entry.ended session at memory.old windows.old out.old put result memory.new windows.new out.new }
 {
-    let position = base + at as u64;
+    let position = part.base + at as u64;
     let chosen = session.chosen;
     let two = is_two(chosen);
-    let reading = read(input, at, position == 0, two);
-    let Reading::Found { record, next } = reading else {
-        return refuse(
-            session,
-            Answer::Record,
-            position,
-            at,
-            leading,
-            padded,
-            out,
-            put,
-        );
+    let Some((record, next)) = read(part.input, at, position == 0, two) else {
+        return refuse(session, Refusal::Record, position, at, tables, out, put);
     };
     let sequence = record.sequence;
     let body = record.body;
     if stale(session.sequence, sequence, body) {
-        return refuse(
-            session,
-            Answer::Sequence,
-            position,
-            at,
-            leading,
-            padded,
-            out,
-            put,
-        );
+        return refuse(session, Refusal::Sequence, position, at, tables, out, put);
     }
     let effect = match body {
         Body::Settings { two, width, beats } => effect::settings(
@@ -145,7 +103,7 @@ pub fn records(
             address,
             length,
             position,
-            input,
+            part.input,
             at + 12,
             memory,
         ),
@@ -154,30 +112,19 @@ pub fn records(
         ),
         Body::Write { offset, value } => {
             return writes(
-                session, sequence, offset, value, base, input, at, next, ended, leading, padded,
-                out, put,
+                session, sequence, offset, value, part, at, next, tables, out, put,
             );
         }
         Body::Read { offset } => effect::register_read(session, sequence, offset),
         Body::Steps { count } => effect::steps(session, sequence, count),
         Body::Astray => {
-            return refuse(
-                session,
-                Answer::Engine,
-                position,
-                next,
-                leading,
-                padded,
-                out,
-                put,
-            );
+            return refuse(session, Refusal::Engine, position, next, tables, out, put);
         }
         Body::Clock { bits, clock } => {
             return clocks(
-                session, sequence, bits, clock, base, input, at, next, ended, leading, padded, out,
-                put,
+                session, sequence, bits, clock, part, at, next, tables, out, put,
             );
         }
     };
-    tell(effect, next, leading, padded, out, put)
+    tell(effect, next, tables, out, put)
 }

@@ -1,17 +1,22 @@
 -- What specs/Claims.antt says, inhabited.
 use mathlib.Core.Path.{◌≡◌, sym, ap, ◌∙◌}
-use Rattle.kit.proofs.Numbers.{number-tells}
-use Rattle.registers.specs.declared.write.Written.{Written}
+use Rattle.std.specs.Prelude.{Result, Ok, Err}
+use Rattle.kit.specs.declared.answer.Refusal.{Refusal}
+use Rattle.kit.proofs.Numbers.{refusal-tells}
+use Rattle.state.specs.declared.engine.Engine.{Engine}
+use Rattle.reads.proofs.Refused.{refused}
 use Rattle.registers.specs.Write.{AfterWrite, write_seen}
 use Rattle.registers.specs.Claims.{Claims}
 use Rattle.registers.proofs.Writes.{writes, write-refused, write-keeps-settings, write-keeps-words, write-keeps-well-formed}
 
-pub write-unique : {r q : Written} {x : AfterWrite} → write_seen r ≡ x → write_seen q ≡ x → r ≡ q
-write-unique {r} {q} e f =
-    let same = e ∙ sym f in
-    let answers = number-tells (ap (λ (y : AfterWrite). y.answer) same) in
-    let engines = ap (λ (y : AfterWrite). y.engine) same in
-    λ i. record { answer = answers i; engine = engines i }
+pub write-unique : (s : Engine) {r q : Result Engine Refusal} {x : AfterWrite} → write_seen s r ≡ x → write_seen s q ≡ x → r ≡ q
+write-unique s {r} {q} e f = tells r q (e ∙ sym f)
+  where
+    tells : (r q : Result Engine Refusal) → write_seen s r ≡ write_seen s q → r ≡ q
+    tells (Ok a) (Ok b) same = ap (λ (t : Engine). Ok t) (ap (λ (y : AfterWrite). y.engine) same)
+    tells (Err a) (Err b) same = ap (λ (t : Refusal). Err t) (refusal-tells (ap (λ (y : AfterWrite). y.answer) same))
+    tells (Ok a) (Err b) same = absurd (refused b (ap (λ (y : AfterWrite). y.answer) same))
+    tells (Err a) (Ok b) same = absurd (refused a (sym (ap (λ (y : AfterWrite). y.answer) same)))
 
 pub claims : Claims
 claims = record {

@@ -1,3 +1,2 @@
 pub mod Claims
-pub mod Guard
 pub mod Writes

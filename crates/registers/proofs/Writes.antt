@@ -10,10 +10,10 @@ use Rattle.kit.specs.Choice.{both, either}
 use Rattle.kit.specs.Limits.{most_bytes}
 use Rattle.kit.specs.Settings.{among, legal_of}
 use Rattle.kit.proofs.Choice.{cases, never, neither}
-use Rattle.state.specs.declared.descriptor.Start.{Start}
-use Rattle.state.specs.declared.descriptor.Start.TheVariants.{Moves, Internal}
+use Rattle.std.specs.Prelude.{Option, Some, None}
 use Rattle.state.specs.declared.engine.Control.{Control}
 use Rattle.state.specs.declared.engine.Engine.{Engine}
+use Rattle.state.specs.declared.engine.Transfer.{Transfer}
 use Rattle.state.specs.declared.engine.Phase.{Phase}
 use Rattle.state.specs.declared.engine.Phase.TheVariants.{Idle, Fetch, Move, Update}
 use Rattle.state.specs.State.{busy_of, error_set_of, phase_fits, well_formed_of, with_btt}
@@ -52,10 +52,10 @@ module _ (s : Engine) (offset v : ℕ) where
       (λ e m. cases (Change s offset v) (busy_of s.phase) (extends o (not-false _ m) e)
       (λ b. fetches o (not-false _ m) (record { no-error = e; idle = b })))
 
-  started : offset ≡ 0x28 → s.control.sgmode ≡ false → Free s → (x : Start) → start_of s.settings.width s.control s.simple.sa s.simple.da (count_of v) ≡ x
+  started : offset ≡ 0x28 → s.control.sgmode ≡ false → Free s → (x : Option Transfer) → start_of s.settings.width s.control s.simple.sa s.simple.da (count_of v) ≡ x
       → Change s offset v (started_of (with_btt s (count_of v)) x)
-  started o m f (Moves t) e = moves o m f t e
-  started o m f Internal e = fails o m f e
+  started o m f (Some t) e = moves o m f t e
+  started o m f None e = fails o m f e
 
   count : offset ≡ 0x28 → W (write_count_of s v)
   count o =

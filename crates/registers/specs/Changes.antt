@@ -1,8 +1,7 @@
 -- RULES.md, "Registers", from the state's side: a write is refused and leaves the state, or is one of these changes.
-use Rattle.std.specs.Prelude.{◌≡◌, ℕ, ◌<◌, true, false}
+use Rattle.std.specs.Prelude.{◌≡◌, ℕ, ◌<◌, true, false, Some, None}
 use Rattle.kit.specs.Choice.{both}
 use Rattle.kit.specs.Settings.{among}
-use Rattle.state.specs.declared.descriptor.Start.TheVariants.{Moves, Internal}
 use Rattle.state.specs.declared.engine.Engine.{Engine}
 use Rattle.state.specs.declared.engine.Transfer.{Transfer}
 use Rattle.state.specs.declared.engine.ErrorBit.TheVariants.{DmaIntErr}
@@ -31,9 +30,9 @@ pub data Change (s : Engine) (offset v : ℕ) : Engine → Type 0 where
       → Change s offset v (with_phase (with_current (with_tail s (pointer v)) s.pointers.next) Fetch)
   sources : offset ≡ 0x18 → Free s → Change s offset v (with_sa s v)
   destinations : offset ≡ 0x20 → Free s → Change s offset v (with_da s v)
-  moves : offset ≡ 0x28 → s.control.sgmode ≡ false → Free s → (t : Transfer) → start_of s.settings.width s.control s.simple.sa s.simple.da (count_of v) ≡ Moves t
+  moves : offset ≡ 0x28 → s.control.sgmode ≡ false → Free s → (t : Transfer) → start_of s.settings.width s.control s.simple.sa s.simple.da (count_of v) ≡ Some t
       → Change s offset v (with_phase (with_btt s (count_of v)) (Move t))
-  fails : offset ≡ 0x28 → s.control.sgmode ≡ false → Free s → start_of s.settings.width s.control s.simple.sa s.simple.da (count_of v) ≡ Internal
+  fails : offset ≡ 0x28 → s.control.sgmode ≡ false → Free s → start_of s.settings.width s.control s.simple.sa s.simple.da (count_of v) ≡ None
       → Change s offset v (with_err (with_fault (with_btt s (count_of v)) DmaIntErr) true)
   nothing : among offset upper_halves ≡ true → Change s offset v s
 

@@ -1,20 +1,16 @@
 -- RULES.md, "Registers": what a write does.
-use Rattle.std.specs.Prelude.{ℕ, Bool, true, not, eqb}
+use Rattle.std.specs.Prelude.{ℕ, Bool, true, not, eqb, Option, Some, None, Result, Ok, Err}
 use Rattle.kit.specs.Choice.{when, both, either}
 use Rattle.kit.specs.Answer.{number_of}
 use Rattle.kit.specs.Settings.{among, legal_of}
-use Rattle.state.specs.declared.descriptor.Start.{Start}
-use Rattle.state.specs.declared.descriptor.Start.TheVariants.{Moves, Internal}
 use Rattle.state.specs.declared.engine.Engine.{Engine}
-use Rattle.kit.specs.declared.settings.Settings.{Settings}
+use Rattle.kit.specs.declared.answer.Refusal.{Refusal}
 use Rattle.state.specs.declared.engine.Control.{Control}
 use Rattle.state.specs.declared.engine.Status.{Status}
-use Rattle.state.specs.declared.engine.Pointers.{Pointers}
-use Rattle.state.specs.declared.engine.Simple.{Simple}
+use Rattle.state.specs.declared.engine.Transfer.{Transfer}
 use Rattle.state.specs.declared.engine.ErrorBit.TheVariants.{DmaIntErr}
 use Rattle.state.specs.declared.engine.Phase.{Phase}
 use Rattle.state.specs.declared.engine.Phase.TheVariants.{Fetch, Move}
-use Rattle.registers.specs.declared.write.Written.{Written}
 use Rattle.state.specs.State.{fresh_of, busy_of, error_set_of, well_formed_of, with_control, with_status, with_current, with_tail, with_next, with_sa, with_da, with_btt, with_phase}
 use Rattle.state.specs.Bits.{bit, pointer, reset, sg_mode, key_hole_read, key_hole_write, ioc_irq_en, err_irq_en, ioc_irq, err_irq}
 use Rattle.state.specs.Descriptor.{count_of, start_of}
@@ -30,11 +26,6 @@ done s = record { answer = 0; engine = s }
 
 abbrev pub ignored : ℕ → Engine → AfterWrite
 ignored n s = record { answer = n; engine = s }
-
--- the same, the state by its parts
-abbrev pub built_of : ℕ → Settings → Control → Status → Pointers → Simple → Phase → AfterWrite
-built_of n x c t p r phase =
-    ignored n (record { settings = x; control = c; status = t; pointers = p; simple = r; phase = phase })
 
 -- two tests that differ
 abbrev pub differ : Bool → Bool → Bool
@@ -94,15 +85,15 @@ abbrev pub write_destination_of : Engine → ℕ → AfterWrite
 write_destination_of s v = guard_of s (busy_of s.phase) (with_da s v)
 
 -- a transfer that starts moves; an internal error sets DMAIntErr and Err_Irq, and the engine stays idle
-abbrev pub started_phase : Start → Phase → Phase
-started_phase (Moves t) p = Move t
-started_phase Internal p = p
+abbrev pub started_phase : Option Transfer → Phase → Phase
+started_phase (Some t) p = Move t
+started_phase None p = p
 
-abbrev pub started_status : Start → Status → Status
-started_status (Moves t) x = x
-started_status Internal x = record { fault = DmaIntErr; ioc = x.ioc; err = true }
+abbrev pub started_status : Option Transfer → Status → Status
+started_status (Some t) x = x
+started_status None x = record { fault = DmaIntErr; ioc = x.ioc; err = true }
 
-abbrev pub started_of : Engine → Start → Engine
+abbrev pub started_of : Engine → Option Transfer → Engine
 started_of s start = with_phase (with_status s (started_status start s.status)) (started_phase start s.phase)
 
 -- BTT: keeps the low 23 bits and starts; busy or chain mode: 4
@@ -130,6 +121,7 @@ write_of s offset v =
     (when (well_formed_of s) (register_written_of s offset v) (ignored 9 s))
     (ignored 1 s)
 
--- the code's result, as a caller sees it
-abbrev pub write_seen : Written → AfterWrite
-write_seen r = record { answer = number_of r.answer; engine = r.engine }
+-- the code's result of a write to s, as a caller sees it
+abbrev pub write_seen : Engine → Result Engine Refusal → AfterWrite
+write_seen s (Ok next) = done next
+write_seen s (Err refusal) = ignored (number_of refusal) s

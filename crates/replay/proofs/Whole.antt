@@ -4,13 +4,12 @@ use Prim.Native.Nat.{ℕ, ◌+◌, ◌-◌, ◌*◌, ◌^◌, ◌≤◌, ◌<◌
 use mathlib.Core.Bool.{Bool, true, false}
 use mathlib.Core.List.{List, [], ◌++◌, append_assoc}
 use native.Mathlib.Omega.{arith}
-use lib.ListN.{length, take, drop, length-append, length-drop, length-replicate}
+use lib.ListN.{length, take, drop, length-append, length-drop}
 use lib.Seq.{length-take-le, drop_at, take-add, drop-drop}
 use lib.IntN.{ℤ, pos, negsuc}
 use lib.Dec.{eqb, ltb}
 use borrow.Author.Tests.{eqb-true, le-ltb}
 use Rattle.kit.specs.Choice.{when}
-use Rattle.kit.specs.Limits.{most_windows}
 use Rattle.kit.proofs.Choice.{never}
 use Rattle.session.specs.declared.Mode.{Mode}
 use Rattle.session.specs.declared.Mode.TheVariants.{Start, Records, Steps, Over}
@@ -140,17 +139,13 @@ complete f b m w fits h done rest last =
     go Records false e d = absurd (never d)
 
 -- what holds whenever the loop's test is reached: no sum can wrap in the turns that are left
-pub record Runs (m₀ w₀ m w b out : List ℕ) (f : Flow) (turns : ℕ) : Type 0 where
+pub record Runs (m w b : List ℕ) (f : Flow) (turns : ℕ) : Type 0 where
   pub fits : Fits f b
-  pub memory : length m ≡ length m₀
-  pub windows : length w ≡ length w₀
-  pub wide : 32 ≤ length w₀
-  pub space : length out ≡ room
   pub small : f.position + room * turns ≤ 2 ^ 63
   pub reached : Reached f b m w
 
 module _ {m w b : List ℕ} (zeros : m ≡ start_memory) (none : w ≡ start_windows) (size : length b ≡ room) where
-  pub runs-begin : {r : Flow} {out : List ℕ} → Begins r out → (turns : ℕ) → room * turns ≤ 2 ^ 63 → Runs m w m w b out r turns
+  pub runs-begin : {r : Flow} {out : List ℕ} → Begins r out → (turns : ℕ) → room * turns ≤ 2 ^ 63 → Runs m w b r turns
   runs-begin {r} {out} t turns h =
       let at-start : Fits (opened_of t.sent) b = record { begins = omega arith; within = omega arith; size = size } in
       let opened : Reached (opened_of t.sent) b m w =
@@ -158,23 +153,14 @@ module _ {m w b : List ℕ} (zeros : m ≡ start_memory) (none : w ≡ start_win
       (subst (λ (l : List ℕ). Reached (opened_of t.sent) b start_memory l) (sym none) (opened-reached t.sent b)) in
       record {
         fits = subst (λ (x : Flow). Fits x b) (sym t.is) at-start;
-        memory = refl;
-        windows = refl;
-        wide = omega (arith, ap length none, length-replicate {A = ℕ} (2 * most_windows) 0);
-        space = t.size;
         small = omega (arith, ap (λ (x : Flow). x.position) t.is, h);
         reached = subst (λ (x : Flow). Reached x b m w) (sym t.is) opened;
       }
 
-pub runs-turn : {m₀ w₀ m w b out : List ℕ} {f : Flow} {turns : ℕ} {m' w' b' out' : List ℕ} {r : Flow} → Runs m₀ w₀ m w b out f turns
-    → Flows f b m w out r b' m' w' out' → 0 < turns → length m' ≡ length m → length w' ≡ length w → length out' ≡ length out
-    → Runs m₀ w₀ m' w' b' out' r (turns - 1)
-runs-turn {turns = turns} h t some m w out = record {
+pub runs-turn : {m w b out : List ℕ} {f : Flow} {turns : ℕ} {m' w' b' out' : List ℕ} {r : Flow} → Runs m w b f turns
+    → Flows f b m w out r b' m' w' out' → 0 < turns → Runs m' w' b' r (turns - 1)
+runs-turn {turns = turns} h t some = record {
   fits = flow-fits h.fits t;
-  memory = m ∙ h.memory;
-  windows = w ∙ h.windows;
-  wide = h.wide;
-  space = out ∙ h.space;
   small = omega (arith, flow-place h.fits t, h.small);
   reached = flow-reached h.fits t h.reached;
 }

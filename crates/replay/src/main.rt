@@ -3,16 +3,16 @@
 #![tactic(auto)]
 
 ghost use Rattle.std.specs.Prelude.{◌≡◌, ◌+◌, ◌≤◌, ◌<◌, ◌^◌, length};
-ghost use Rattle.digits.specs.Tables.{Tables};
 ghost use Rattle.flow.specs.Flow.{room, Fits};
 ghost use Rattle.whole.specs.Listing.{start_memory, start_windows};
 ghost use Rattle.replay.specs.Turn.{Begins, Forwards, Flows};
 ghost use Rattle.replay.specs.Whole.{Reached};
 
-use digits::tables::fill;
-use flow::flow::{Flow, after_pass, opened};
+use digits::tables::DigitTables;
+use flow::flow::{Flow, ROOM, after_pass, opened};
 use flow::input::{refill, report};
 use listing::line::put_header;
+use session::part::Part;
 use std::io::{Stdout, Write};
 use trace::pass::pass;
 
@@ -21,59 +21,51 @@ use trace::pass::pass;
 // stay below 2^63. At ten million turns a second it lasts 160 days; if it is used up, the program says so.
 const MOST_TURNS: u64 = 140737488355328;
 
+// How many bytes the memory has.
+const MEMORY: usize = 32768;
+
+// How many numbers the sick windows are at most, two each.
+const NUMBERS: usize = 32;
+
 fn main(rt: HostRuntime) {
-    let mut leading_space = [0u32; 1000];
-    let mut padded_space = [0u32; 1000];
-    let leading: &mut [u32; 1000] = &mut leading_space;
-    let padded: &mut [u32; 1000] = &mut padded_space;
-    fill(leading, padded);
-    replay_trace(leading, padded, rt);
+    let tables = DigitTables::new();
+    replay_trace(&tables, rt);
 }
 
 // Lends a replay its memory, its windows and its two buffers.
-fn replay_trace(leading: &[u32; 1000], padded: &[u32; 1000], rt: HostRuntime)
-    requires { Tables leading.now padded.now }
-{
-    let mut memory_space = [0u8; 32768];
-    let mut windows_space = [0u32; 32];
-    let mut buffer_space = [0u8; 65536];
-    let mut out_space = [0u8; 65536];
-    let memory: &mut [u8] = &mut memory_space;
-    let windows: &mut [u32] = &mut windows_space;
-    let buffer: &mut [u8] = &mut buffer_space;
-    let out: &mut [u8] = &mut out_space;
-    let flow = run(memory, windows, buffer, leading, padded, out, rt);
+fn replay_trace(tables: &DigitTables, rt: HostRuntime) {
+    let mut memory = [0u8; MEMORY];
+    let mut windows = [0u32; NUMBERS];
+    let mut buffer = [0u8; ROOM];
+    let mut out = [0u8; ROOM];
+    let flow = run(&mut memory, &mut windows, &mut buffer, tables, &mut out, rt);
     report(flow.over, rt.stderr());
 }
 
 // Turns until the replay is over.
 fn run(
-    memory: &mut [u8],
-    windows: &mut [u32],
-    buffer: &mut [u8],
-    leading: &[u32; 1000],
-    padded: &[u32; 1000],
-    out: &mut [u8],
+    memory: &mut [u8; MEMORY],
+    windows: &mut [u32; NUMBERS],
+    buffer: &mut [u8; ROOM],
+    tables: &DigitTables,
+    out: &mut [u8; ROOM],
     rt: HostRuntime,
 ) -> Flow
-    requires { (memory.old ≡ start_memory) × (windows.old ≡ start_windows) × (length buffer.old ≡ room) × (length out.old ≡ room) × Tables leading.now padded.now }
+    requires { (memory.old ≡ start_memory) × (windows.old ≡ start_windows) }
     ensures { Fits result buffer.new × Reached result buffer.new memory.new windows.new }
 {
     let mut flow = begin(out, rt.stdout());
-    let mut turns = MOST_TURNS;
-    while turns > 0 {
+    for _ in 0..MOST_TURNS {
         if flow.over {
             break;
         }
-        flow = flow_on(flow, memory, windows, buffer, leading, padded, out, rt);
-        turns -= 1;
+        flow = flow_on(flow, memory, windows, buffer, tables, out, rt);
     }
     flow
 }
 
 // The header comes before anything is read.
-fn begin(out: &mut [u8], stdout: Stdout) -> Flow
-    requires { length out.old ≡ room }
+fn begin(out: &mut [u8; ROOM], stdout: Stdout) -> Flow
     ensures { Begins result out.new }
 {
     let put = put_header(out, 0);
@@ -83,64 +75,46 @@ fn begin(out: &mut [u8], stdout: Stdout) -> Flow
 // One turn: some input, and the lines it gives.
 fn flow_on(
     flow: Flow,
-    memory: &mut [u8],
-    windows: &mut [u32],
-    buffer: &mut [u8],
-    leading: &[u32; 1000],
-    padded: &[u32; 1000],
-    out: &mut [u8],
+    memory: &mut [u8; MEMORY],
+    windows: &mut [u32; NUMBERS],
+    buffer: &mut [u8; ROOM],
+    tables: &DigitTables,
+    out: &mut [u8; ROOM],
     rt: HostRuntime,
 ) -> Flow
-    requires { Fits flow buffer.old × (32 ≤ length windows.old) × (length out.old ≡ room) × (flow.position + room < 2 ^ 64) × Tables leading.now padded.now }
+    requires { Fits flow buffer.old × (flow.position + room < 2 ^ 64) }
     ensures { Flows flow buffer.old memory.old windows.old out.old result buffer.new memory.new windows.new out.new }
 {
     let flow = refill(flow, buffer, rt.stdin(), rt.stderr());
     if flow.over {
         return flow;
     }
-    forward(
-        flow,
-        memory,
-        windows,
-        buffer,
-        leading,
-        padded,
-        out,
-        rt.stdout(),
-    )
+    forward(flow, memory, windows, buffer, tables, out, rt.stdout())
 }
 
 // The lines that the pending bytes give, and their way out.
 fn forward(
     flow: Flow,
-    memory: &mut [u8],
-    windows: &mut [u32],
-    buffer: &[u8],
-    leading: &[u32; 1000],
-    padded: &[u32; 1000],
-    out: &mut [u8],
+    memory: &mut [u8; MEMORY],
+    windows: &mut [u32; NUMBERS],
+    buffer: &[u8; ROOM],
+    tables: &DigitTables,
+    out: &mut [u8; ROOM],
     stdout: Stdout,
 ) -> Flow
-    requires { Fits flow buffer.now × (32 ≤ length windows.old) × (flow.position + room < 2 ^ 64) × Tables leading.now padded.now }
+    requires { Fits flow buffer.now × (flow.position + room < 2 ^ 64) }
     ensures { Forwards flow buffer.now memory.old windows.old out.old result memory.new windows.new out.new }
 {
     let at = flow.at;
     let filled = flow.filled;
     let session = flow.session;
-    let part = &buffer[at..filled];
+    let part = Part {
+        base: flow.position,
+        input: &buffer[at..filled],
+        ended: flow.ended,
+    };
     let other = flow.other;
-    let passed = pass(
-        session,
-        other,
-        flow.position,
-        part,
-        flow.ended,
-        memory,
-        windows,
-        leading,
-        padded,
-        out,
-    );
+    let passed = pass(session, other, part, memory, windows, tables, out);
     let sent = send(out, passed.put, stdout);
     after_pass(flow, passed, sent)
 }

@@ -9,7 +9,10 @@ use lib.ListN.{length}
 use lib.Dec.{eqb}
 use borrow.Author.Tests.{eq-eqb, ne_eqb}
 use Rattle.kit.proofs.Choice.{yes, no, decide, never}
-use Rattle.kit.proofs.Numbers.{number-tells}
+use Rattle.kit.proofs.Numbers.{refusal-tells, refusal-some}
+use Rattle.std.specs.Prelude.{Ok, Err}
+use Rattle.kit.specs.declared.answer.Refusal.{Refusal}
+use Rattle.kit.specs.Answer.{number_of}
 use Rattle.memory.specs.declared.window.Window.{Window}
 use Rattle.memory.specs.Windows.{windows_of}
 use Rattle.state.specs.declared.engine.Engine.{Engine}
@@ -99,18 +102,28 @@ walk_steps (suc n) i r windows a =
 
 -- ---- uniqueness
 
+-- no refusal's number is 0
+pub numbered : (f : Refusal) → number_of f ≡ 0 → ⊥
+numbered f e = never (sym (refusal-some f) ∙ ap (λ (n : ℕ). eqb n 0) e)
+
 pub step-unique : StepUnique
-step-unique p q a b x e f =
+step-unique s (Ok p) (Ok q) a b x e f =
     let same = e ∙ sym f in
-    let answers = number-tells (ap (λ (y : AfterStep). y.answer) same) in
     let events = ap (λ (y : AfterStep). y.event) same in
     let engines = ap (λ (y : AfterStep). y.engine) same in
-    (λ i. record { answer = answers i; event = events i; engine = engines i }, ap (λ (y : AfterStep). y.memory) same)
+    (λ i. Ok (record { event = events i; engine = engines i }), ap (λ (y : AfterStep). y.memory) same)
+step-unique s (Ok p) (Err q) a b x e f = absurd (numbered q (sym (ap (λ (y : AfterStep). y.answer) (e ∙ sym f))))
+step-unique s (Err p) (Ok q) a b x e f = absurd (numbered p (ap (λ (y : AfterStep). y.answer) (e ∙ sym f)))
+step-unique s (Err p) (Err q) a b x e f =
+    let same = e ∙ sym f in (ap Err (refusal-tells (ap (λ (y : AfterStep). y.answer) same)), ap (λ (y : AfterStep). y.memory) same)
 
 pub run-unique : RunUnique
-run-unique p q a b x e f =
+run-unique s (Ok p) (Ok q) a b x e f =
     let same = e ∙ sym f in
-    let answers = number-tells (ap (λ (y : AfterRun). y.answer) same) in
     let steps = ap (λ (y : AfterRun). y.steps) same in
     let engines = ap (λ (y : AfterRun). y.engine) same in
-    (λ i. record { answer = answers i; steps = steps i; engine = engines i }, ap (λ (y : AfterRun). y.memory) same)
+    (λ i. Ok (record { steps = steps i; engine = engines i }), ap (λ (y : AfterRun). y.memory) same)
+run-unique s (Ok p) (Err q) a b x e f = absurd (numbered q (sym (ap (λ (y : AfterRun). y.answer) (e ∙ sym f))))
+run-unique s (Err p) (Ok q) a b x e f = absurd (numbered p (ap (λ (y : AfterRun). y.answer) (e ∙ sym f)))
+run-unique s (Err p) (Err q) a b x e f =
+    let same = e ∙ sym f in (ap Err (refusal-tells (ap (λ (y : AfterRun). y.answer) same)), ap (λ (y : AfterRun). y.memory) same)

@@ -1,5 +1,6 @@
 -- What holds of every step and run that a caller asks for, whatever the state, the memory and the windows; proofs/ proves each.
-use Rattle.std.specs.Prelude.{◌≡◌, ℕ, zero, suc, ◌/◌, ◌≤◌, true, false, List, length}
+use Rattle.std.specs.Prelude.{◌≡◌, ℕ, zero, suc, ◌/◌, ◌≤◌, true, false, List, length, Result}
+use Rattle.kit.specs.declared.answer.Refusal.{Refusal}
 use Rattle.kit.specs.Limits.{most_memory, most_windows}
 use Rattle.kit.specs.Settings.{legal_of}
 use Rattle.memory.specs.declared.window.Window.{Window}
@@ -8,7 +9,7 @@ use Rattle.state.specs.declared.engine.Engine.{Engine}
 use Rattle.state.specs.State.{busy_of, well_formed_of}
 use Rattle.steps.specs.Step.{AfterAdvance, advance_of}
 use Rattle.steps.specs.Claims.{Bytes}
-use Rattle.runs.specs.declared.run.Stepped.{Stepped}
+use Rattle.steps.specs.declared.event.Advanced.{Advanced}
 use Rattle.runs.specs.declared.run.Ran.{Ran}
 use Rattle.runs.specs.Run.{refusal_of, AfterWalk, after_steps, walk_from, AfterStep, step_seen, step_answer, step_of, AfterRun, run_seen}
 
@@ -57,7 +58,7 @@ WalkSteps = (n i : ℕ) (r : AfterAdvance) (windows : List ℕ) → Acceptable r
 -- ---- two results that one contract allows are equal, and so are the memories they leave
 
 abbrev pub StepUnique : Type 0
-StepUnique = (p q : Stepped) (a b : List ℕ) (x : AfterStep) → step_seen p a ≡ x → step_seen q b ≡ x → (p ≡ q) × (a ≡ b)
+StepUnique = (s : Engine) (p q : Result Advanced Refusal) (a b : List ℕ) (x : AfterStep) → step_seen s p a ≡ x → step_seen s q b ≡ x → (p ≡ q) × (a ≡ b)
 
 abbrev pub RunUnique : Type 0
-RunUnique = (p q : Ran) (a b : List ℕ) (x : AfterRun) → run_seen p a ≡ x → run_seen q b ≡ x → (p ≡ q) × (a ≡ b)
+RunUnique = (s : Engine) (p q : Result Ran Refusal) (a b : List ℕ) (x : AfterRun) → run_seen s p a ≡ x → run_seen s q b ≡ x → (p ≡ q) × (a ≡ b)

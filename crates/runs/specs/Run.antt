@@ -1,6 +1,7 @@
 -- RULES.md, "Descriptor and steps" and "Numbered answers": a step and a run, with their refusals.
-use Rattle.std.specs.Prelude.{ℕ, zero, suc, ◌/◌, true, false, List, length, eqb, ltb}
+use Rattle.std.specs.Prelude.{ℕ, zero, suc, ◌/◌, true, false, List, length, eqb, ltb, Result, Ok, Err}
 use Rattle.kit.specs.Choice.{when}
+use Rattle.kit.specs.declared.answer.Refusal.{Refusal}
 use Rattle.kit.specs.Answer.{number_of}
 use Rattle.kit.specs.Limits.{most_memory, most_windows}
 use Rattle.kit.specs.Settings.{legal_of}
@@ -9,10 +10,10 @@ use Rattle.memory.specs.Windows.{windows_of}
 use Rattle.state.specs.declared.engine.Engine.{Engine}
 use Rattle.state.specs.State.{busy_of, well_formed_of}
 use Rattle.steps.specs.declared.event.Event.{Event}
-use Rattle.runs.specs.declared.run.Stepped.{Stepped}
+use Rattle.steps.specs.declared.event.Advanced.{Advanced}
 use Rattle.runs.specs.declared.run.Ran.{Ran}
 use Rattle.runs.specs.declared.walk.Walked.{Walked}
-use Rattle.steps.specs.Step.{AfterAdvance, begun, advance_of}
+use Rattle.steps.specs.Step.{AfterAdvance, advance_seen, begun, advance_of}
 
 -- step and run: 1, 2, 6, 9, the first that fits, by the memory's bytes and the number of windows
 unfoldable pub refusal_of : Engine → ℕ → ℕ → ℕ
@@ -59,10 +60,11 @@ step_of s m windows =
     let n = refusal_of s (length m) (length windows / 2) in
     step_answer n (when (eqb n 0) (advance_of s m (windows_of windows)) (begun s m))
 
-abbrev pub step_seen : Stepped → List ℕ → AfterStep
-step_seen r m = record { answer = number_of r.answer; event = r.event; engine = r.engine; memory = m }
+abbrev pub step_seen : Engine → Result Advanced Refusal → List ℕ → AfterStep
+step_seen s (Ok r) m = step_answer 0 (advance_seen r m)
+step_seen s (Err refusal) m = step_answer (number_of refusal) (begun s m)
 
--- a run: its answer's number, the steps taken, state and memory
+-- a run: its answer's number, the steps taken, state and memory; a refusal leaves state and memory as they were, and takes no step
 pub record AfterRun : Type 0 where
   pub answer : ℕ
   pub steps : ℕ
@@ -77,5 +79,6 @@ run_of most s m windows =
     let n = refusal_of s (length m) (length windows / 2) in
     run_answer n (when (eqb n 0) (walk_from most 0 (begun s m) (windows_of windows)) (after_steps 0 (begun s m)))
 
-abbrev pub run_seen : Ran → List ℕ → AfterRun
-run_seen r m = record { answer = number_of r.answer; steps = r.steps; engine = r.engine; memory = m }
+abbrev pub run_seen : Engine → Result Ran Refusal → List ℕ → AfterRun
+run_seen s (Ok r) m = record { answer = 0; steps = r.steps; engine = r.engine; memory = m }
+run_seen s (Err refusal) m = run_answer (number_of refusal) (after_steps 0 (begun s m))

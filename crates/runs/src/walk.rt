@@ -1,11 +1,11 @@
 // Some steps of a well-formed engine, one after the other.
-ghost use Rattle.std.specs.Prelude.{◌≡◌, true, ◌≤◌, ◌<◌, length, eqb};
+ghost use Rattle.std.specs.Prelude.{◌≡◌, true, ◌≤◌, ◌<◌, length, eqb, IfSome, IfNone};
 ghost use Rattle.kit.specs.Choice.{when};
 ghost use Rattle.kit.specs.Limits.{most_memory};
 ghost use Rattle.kit.specs.Settings.{legal_of};
 ghost use Rattle.memory.specs.Windows.{windows_of};
 ghost use Rattle.state.specs.declared.engine.Phase.TheVariants.{Move};
-ghost use Rattle.state.specs.State.{busy_of, transfer_fits, well_formed_of};
+ghost use Rattle.state.specs.State.{busy_of, well_formed_of};
 ghost use Rattle.steps.specs.declared.event.Event.TheVariants.{None, Move as Moved};
 ghost use Rattle.steps.specs.Step.{begun};
 ghost use Rattle.moves.specs.Moves.{Reaches, Glides};
@@ -13,9 +13,9 @@ ghost use Rattle.runs.specs.Run.{walk_from, walk_seen, stands_at};
 
 use cut::{Burst, span};
 use fixed::glide_fixed;
-use kit::settings::Settings;
 use moves::glide::{Glided, glide};
 use state::engine::{Control, Engine, Phase, Transfer, busy};
+use state::moving::Moving;
 use steps::advance::advance;
 use steps::event::{Advanced, Event};
 use steps::move_burst::continue_or_finish;
@@ -29,9 +29,9 @@ pub struct Walked {
 }
 
 // More bytes are to go than twice `beats` words have, so asking how far memory is good pays.
-fn long(settings: Settings, transfer: Transfer) -> bool
-    requires { transfer_fits transfer ≡ true }
-{
+fn long(moving: Moving) -> bool {
+    let settings = moving.settings;
+    let transfer = moving.transfer;
     span(settings.width, settings.beats) < ((transfer.total - transfer.moved) / 2) as u64
 }
 
@@ -49,88 +49,76 @@ fn event_of(steps: u32, last: Burst) -> Event
 // As many bursts as are good, or none, whichever sides are fixed.
 fn good_bursts(
     control: Control,
-    settings: Settings,
-    transfer: Transfer,
+    moving: Moving,
     memory: &mut [u8],
     windows: &[u32],
     most: u32,
 ) -> Glided
-    requires settings_value { legal_of settings ≡ true }
-    requires transfer_value { transfer_fits transfer ≡ true }
-    requires memory_len_bound { length memory.old ≤ most_memory }
-    ensures glides { Glides settings control.keyholeread control.keyholewrite transfer (windows_of windows.now) memory.old result memory.new }
+    requires { length memory.old ≤ most_memory }
+    ensures glides { Glides moving.settings control.keyholeread control.keyholewrite moving.transfer (windows_of windows.now) memory.old result memory.new }
     ensures steps_le_most { result.steps ≤ most }
 {
-    let reads = control.keyholeread;
-    let writes = control.keyholewrite;
     // Two calls of each, so that it stays a call: compiled into the loop of a run, `glide_fixed` would slow down all other
     // transfers, and the loop of `glide` would have no registers of its own.
-    if reads {
-        return glide_fixed(settings, reads, writes, transfer, memory, windows, most);
+    if control.keyholeread {
+        return glide_fixed(control, moving, memory, windows, most);
     }
-    if writes {
-        return glide_fixed(settings, reads, writes, transfer, memory, windows, most);
+    if control.keyholewrite {
+        return glide_fixed(control, moving, memory, windows, most);
     }
-    if transfer.moved == 0 {
-        let whole = Transfer {
-            moved: 0,
-            ..transfer
+    if moving.transfer.moved == 0 {
+        let whole = Moving {
+            settings: moving.settings,
+            transfer: Transfer {
+                moved: 0,
+                ..moving.transfer
+            },
         };
-        return glide(settings, whole, memory, windows, most);
+        return glide(whole, memory, windows, most);
     }
-    glide(settings, transfer, memory, windows, most)
+    glide(moving, memory, windows, most)
 }
 
 // The engine after them.
-fn glide_on(
-    engine: Engine,
-    transfer: Transfer,
-    memory: &mut [u8],
-    windows: &[u32],
-    most: u32,
-) -> Walked
-    requires settings_value { legal_of engine.settings ≡ true }
+fn glide_on(engine: Engine, moving: Moving, memory: &mut [u8], windows: &[u32], most: u32) -> Walked
+    requires settings_value { engine.settings ≡ moving.settings }
+    requires phase_value { engine.phase ≡ Move moving.transfer }
     requires memory_len_bound { length memory.old ≤ most_memory }
-    requires transfer_value { transfer_fits transfer ≡ true }
-    requires phase_value { engine.phase ≡ Move transfer }
     ensures reaches { Reaches (windows_of windows.now) (begun engine memory.old) result.steps (stands_at result memory.new) }
     ensures steps_le_most { result.steps ≤ most }
 {
-    let glided = good_bursts(
-        engine.control,
-        engine.settings,
-        transfer,
-        memory,
-        windows,
-        most,
-    );
-    let last = glided.last;
+    let glided = good_bursts(engine.control, moving, memory, windows, most);
     Walked {
-        event: event_of(glided.steps, last),
+        event: event_of(glided.steps, glided.last),
         steps: glided.steps,
-        engine: continue_or_finish(engine, transfer, glided.moved),
+        engine: continue_or_finish(engine, moving.transfer, glided.moved),
     }
 }
 
-// The good bursts of a long transfer, or none.
-fn bursts_ahead(engine: Engine, memory: &mut [u8], windows: &[u32], most: u32) -> Walked
+// The good bursts of a long transfer, if there are any. What `glide_on` gives is handed on whole: taken apart here, more of the
+// state goes by the stack once all of this is compiled into `walk`.
+fn bursts_ahead(engine: Engine, memory: &mut [u8], windows: &[u32], most: u32) -> Option<Walked>
     requires settings_value { legal_of engine.settings ≡ true }
     requires memory_len_bound { length memory.old ≤ most_memory }
     requires engine_value { well_formed_of engine ≡ true }
-    ensures reaches { Reaches (windows_of windows.now) (begun engine memory.old) result.steps (stands_at result memory.new) }
-    ensures steps_le_most { result.steps ≤ most }
+    ensures same { IfNone result (memory.new ≡ memory.old) }
+    ensures reaches { IfSome result (λ walked. Reaches (windows_of windows.now) (begun engine memory.old) walked.steps (stands_at walked memory.new)) }
+    ensures steps_nonzero { IfSome result (λ walked. (0 < walked.steps) × (walked.steps ≤ most)) }
 {
     let phase = engine.phase;
     if let Phase::Move(transfer) = phase {
-        if long(engine.settings, transfer) {
-            return glide_on(engine, transfer, memory, windows, most);
+        let moving = Moving {
+            settings: engine.settings,
+            transfer,
+        };
+        if long(moving) {
+            let walked = glide_on(engine, moving, memory, windows, most);
+            if 0 < walked.steps {
+                return Some(walked);
+            }
         }
     }
-    Walked {
-        event: Event::None,
-        steps: 0,
-        engine,
-    }
+    None
 }
 
 // The bursts of a long transfer, or one step.
@@ -143,9 +131,8 @@ fn stride(engine: Engine, memory: &mut [u8], windows: &[u32], most: u32) -> Walk
     ensures reaches { Reaches (windows_of windows.now) (begun engine memory.old) result.steps (stands_at result memory.new) }
     ensures steps_nonzero { (0 < result.steps) × (result.steps ≤ most) }
 {
-    let ahead = bursts_ahead(engine, memory, windows, most);
-    if 0 < ahead.steps {
-        return ahead;
+    if let Some(walked) = bursts_ahead(engine, memory, windows, most) {
+        return walked;
     }
     let advanced = advance(engine, memory, windows);
     let event = advanced.event;
@@ -172,6 +159,7 @@ pub fn walk(engine: Engine, memory: &mut [u8], windows: &[u32], most: u32) -> Wa
         event: Event::None,
         engine,
     };
+    // A turn takes one step or many, and their number is told too, so the loop goes by it: a range counts turns.
     let mut steps: u32 = 0;
     while steps < most {
         let engine = last.engine;

@@ -5,10 +5,10 @@ use mathlib.Core.List.{List}
 use Prim.Native.Nat.{ℕ, ◌+◌, ◌-◌, ◌≤◌, ◌<◌}
 use lib.Dec.{eqb, leb}
 use lib.ListN.{length, get_or}
-use borrow.Author.Tests.{le-leb, lt-leb, leb-true}
+use borrow.Author.Tests.{lt-leb, leb-true}
 use Rattle.kit.specs.Choice.{both}
 use Rattle.kit.specs.Word.{word_at, half_at}
-use Rattle.kit.proofs.Choice.{yes, no, both_left, both_right, never}
+use Rattle.kit.proofs.Choice.{no, both_left, both_right, never}
 use Rattle.record.specs.declared.reading.Body.{Body}
 use Rattle.record.specs.declared.reading.Body.TheVariants.{Write, Clock}
 use Rattle.record.specs.Mark.{letters}
@@ -27,16 +27,6 @@ use Rattle.session.specs.Turn.{turn_as, apply_of, numbered, stale_of, record_by,
 use Rattle.session.specs.Pass.{ready_of, line_room, InOrder, goes_on_with, goes_on_writing}
 
 module _ (input : List ℕ) (at : ℕ) (ended : Bool) (put room mark size before : ℕ) where
-  pub no_room : room < put + line_room → false ≡ goes_on_with input at ended put room mark size before
-  no_room h = no _ (lt-leb (put + line_room) room h) refl
-
-  pub not-ready : put + line_room ≤ room → ready_of modes.Records (length input - at) ended ≡ false → false ≡ goes_on_with input at ended put room mark size before
-  not-ready h e = yes _ (le-leb (put + line_room) room h) (no _ e refl)
-
-  pub as-follows : put + line_room ≤ room → ready_of modes.Records (length input - at) ended ≡ true → {r : Bool} → r ≡ follows_of input at mark size before
-      → r ≡ goes_on_with input at ended put room mark size before
-  as-follows h e f = yes _ (le-leb (put + line_room) room h) (yes _ e f)
-
   module _ (g : goes_on_with input at ended put room mark size before ≡ true) where
     rest : both (ready_of modes.Records (length input - at) ended) (follows_of input at mark size before) ≡ true
     rest = both_right (leb (put + line_room) room) _ g

@@ -8,12 +8,12 @@ use lib.ListN.{length}
 use Rattle.record.specs.declared.reading.Body.{Body}
 use Rattle.record.specs.declared.reading.Body.TheVariants.{Settings, Memory, Window, Write, Read, Steps, Astray, Clock}
 use Rattle.record.specs.declared.reading.Record.{Record}
-use Rattle.record.specs.declared.reading.Reading.TheVariants.{Found}
+use Rattle.std.specs.Prelude.{Some}
 use Rattle.record.specs.Reading.{reading_of}
 use Rattle.record.proofs.Claims.{claims}
 use Rattle.session.specs.Turn.{DataFits}
 
-module _ (input : List ℕ) (at : ℕ) (first two : Bool) (r : Record) (next : ℕ) (e : reading_of input at first two ≡ Found r next) where
+module _ (input : List ℕ) (at : ℕ) (first two : Bool) (r : Record) (next : ℕ) (e : reading_of input at first two ≡ Some (r, next)) where
   pub data-fits : DataFits input at r.body
   data-fits = go r.body refl
     where

@@ -14,8 +14,8 @@ use Rattle.memory.specs.Windows.{windows_of}
 use Rattle.steps.proofs.Keeps.{advance-keeps}
 use Rattle.record.specs.declared.reading.Body.{Body}
 use Rattle.record.specs.declared.reading.Body.TheVariants.{Settings, Memory, Window, Write, Read, Steps, Astray, Clock}
-use Rattle.record.specs.declared.reading.Reading.{Reading}
-use Rattle.record.specs.declared.reading.Reading.TheVariants.{Found, Refused}
+use Rattle.record.specs.declared.reading.Record.{Record}
+use Rattle.std.specs.Prelude.{Option, None, Some}
 use Rattle.record.specs.Reading.{reading_of}
 use Rattle.session.specs.declared.Mode.{Mode}
 use Rattle.session.specs.declared.Mode.TheVariants as modes
@@ -74,10 +74,10 @@ pub record Kept (input : List ℕ) (l : Lent) (at : ℕ) (l' : Lent) : Type 0 wh
   pub lengths : SameLengths l l'
   pub within : at ≤ length input
 
-pub record-kept : (s : Session) (position : ℕ) (input : List ℕ) (at : ℕ) (lent : Lent) → at ≤ length input → (v : Reading)
+pub record-kept : (s : Session) (position : ℕ) (input : List ℕ) (at : ℕ) (lent : Lent) → at ≤ length input → (v : Option (Record × ℕ))
     → reading_of input at (eqb position 0) (two_of s.chosen) ≡ v → Kept input lent (record_by s position input at lent v).at (record_by s position input at lent v).lent
-record-kept s position input at lent h Refused e = record { lengths = same lent; within = h }
-record-kept s position input at lent h (Found r next) e =
+record-kept s position input at lent h None e = record { lengths = same lent; within = h }
+record-kept s position input at lent h (Some (r, next)) e =
     cases (λ (t : Turn). Kept input lent t.at t.lent) (stale_of s.sequence r.sequence r.body) (λ _. record { lengths = same lent; within = h })
     (λ _. record { lengths = apply-lengths s position input at lent r.sequence r.body; within = (inside input at (eqb position 0) (two_of s.chosen) r next e).1 })
 

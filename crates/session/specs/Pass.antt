@@ -1,12 +1,11 @@
 -- RULES.md, "Trace and listing": turns on a part of a trace, and what a pass over it gives.
-use Rattle.std.specs.Prelude.{ℕ, zero, suc, ◌+◌, ◌-◌, ◌<◌, ◌≤◌, ◌≡◌, Bool, true, false, not, List, [], ◌++◌, length, drop, eqb, leb, ltb}
+use Rattle.std.specs.Prelude.{ℕ, zero, suc, ◌+◌, ◌-◌, ◌<◌, ◌≤◌, ◌≡◌, Bool, true, false, not, List, [], Some, ◌++◌, length, drop, eqb, leb, ltb}
 use Rattle.kit.specs.Choice.{when, both}
 use Rattle.state.specs.declared.engine.Engine.{Engine}
 use Rattle.digits.specs.Puts.{Puts}
 use Rattle.listing.specs.Line.{line_of}
 use Rattle.digits.specs.Puts.{Puts}
 use Rattle.record.specs.declared.reading.Body.{Body}
-use Rattle.record.specs.declared.reading.Reading.TheVariants.{Found}
 use Rattle.record.specs.Reading.{reading_of}
 use Rattle.record.specs.Starts.{settings_at}
 use Rattle.record.specs.Mark.{letters}
@@ -126,7 +125,7 @@ calls_other Over c input at = false
 
 -- the record at `at` was read, its sequence number is not stale, the engine that it is for is chosen, and a pass may take it
 pub record InOrder (base : ℕ) (input : List ℕ) (ended : Bool) (s : Session) (at sequence : ℕ) (body : Body) (next : ℕ) : Type 0 where
-  pub read : reading_of input at (eqb (base + at) 0) (two_of s.chosen) ≡ Found (record { sequence = sequence; body = body }) next
+  pub read : reading_of input at (eqb (base + at) 0) (two_of s.chosen) ≡ Some (record { sequence = sequence; body = body }, next)
   pub rises : stale_of s.sequence sequence body ≡ false
   pub hand : called_of s.chosen input at ≡ false
   pub mode : s.mode ≡ Records

@@ -1,12 +1,11 @@
 -- RULES.md, "Trace and listing": a record is read, judged and applied.
-use Rattle.std.specs.Prelude.{ℕ, ◌+◌, ◌≤◌, Bool, true, false, List, length, eqb, leb}
+use Rattle.std.specs.Prelude.{ℕ, ◌+◌, ◌≤◌, Bool, true, false, List, Option, None, Some, length, eqb, leb}
 use Rattle.kit.specs.Choice.{when, both}
-use Rattle.kit.specs.declared.answer.Answer.TheVariants as answers
+use Rattle.kit.specs.declared.answer.Refusal.TheVariants as answers
 use Rattle.kit.specs.Answer.{number_of}
 use Rattle.record.specs.declared.reading.Body.{Body}
 use Rattle.record.specs.declared.reading.Body.TheVariants.{Settings, Memory, Window, Write, Read, Steps, Astray, Clock}
-use Rattle.record.specs.declared.reading.Reading.{Reading}
-use Rattle.record.specs.declared.reading.Reading.TheVariants.{Found, Refused}
+use Rattle.record.specs.declared.reading.Record.{Record}
 use Rattle.record.specs.Reading.{reading_of}
 use Rattle.session.specs.declared.Session.{Session}
 use Rattle.session.specs.declared.Effect.{Effect}
@@ -61,9 +60,9 @@ abbrev pub stale_of : ℕ → ℕ → Body → Bool
 stale_of before sequence body = both (leb sequence before) (numbered body)
 
 -- a record by what reading gave: none, a sequence number not above the last one, then the record's own refusals
-abbrev pub record_by : Session → ℕ → List ℕ → ℕ → Lent → Reading → Turn
-record_by s position input at lent Refused = turn_as (after (bad_of s (number_of answers.Record) position) lent) at
-record_by s position input at lent (Found r next) =
+abbrev pub record_by : Session → ℕ → List ℕ → ℕ → Lent → Option (Record × ℕ) → Turn
+record_by s position input at lent None = turn_as (after (bad_of s (number_of answers.Record) position) lent) at
+record_by s position input at lent (Some (r, next)) =
     when (stale_of s.sequence r.sequence r.body) (turn_as (after (bad_of s (number_of answers.Sequence) position) lent) at)
     (turn_as (apply_of s r.sequence position input at lent r.body) next)
 

@@ -4,7 +4,7 @@ ghost use Rattle.session.specs.Chosen.{chosen_at, two_of, turned_of, called_of};
 
 use record::engines::names;
 
-// The only engine, or engine 1 or 2 of two.
+// The only engine, or engine 1 or 2 of two: `Only` is an engine too, and not the lack of one.
 #[derive(Clone, Copy)]
 pub enum Chosen {
     Only,
@@ -23,11 +23,7 @@ pub fn chosen_at_start(two: bool) -> Chosen
 pub fn is_two(chosen: Chosen) -> bool
     ensures { result ≡ two_of chosen }
 {
-    match chosen {
-        Chosen::Only => false,
-        Chosen::First => true,
-        Chosen::Second => true,
-    }
+    !matches!(chosen, Chosen::Only)
 }
 
 // The other one of two.

@@ -11,12 +11,7 @@ use state::engine::Engine;
 pub fn calls_other(mode: Mode, chosen: Chosen, input: &[u8], at: usize) -> bool
     ensures { result ≡ calls_other mode chosen input.now at }
 {
-    match mode {
-        Mode::Records => called(chosen, input, at),
-        Mode::Start => false,
-        Mode::Steps { left: _, taken: _ } => false,
-        Mode::Over => false,
-    }
+    matches!(mode, Mode::Records) && called(chosen, input, at)
 }
 
 // The session with the other engine in the place of its own, if that is called for. Both have the same settings.
@@ -38,7 +33,7 @@ pub fn hand_over(calls: bool, session: Session, other: Engine) -> Session
     }
 }
 
-// The engine that is then set aside.
+// The engine that is then set aside. Apart from `hand_over`: a pair of both would be copied, to be taken apart at once.
 pub fn set_aside(calls: bool, session: Session, other: Engine) -> Engine
     ensures { result ≡ when calls session.engine other }
 {

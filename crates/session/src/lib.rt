@@ -5,6 +5,7 @@
 pub mod bad;
 pub mod chosen;
 pub mod hands;
+pub mod part;
 pub mod ready;
 
 ghost use Rattle.std.specs.Prelude.{◌≡◌};
@@ -37,14 +38,15 @@ pub struct Session {
     pub mode: Mode,
 }
 
-// The session after a line, and the line.
+// The session after a line, and the line. An ST has a line too, which is not printed (`steps_of` of specs/).
 #[derive(Clone, Copy)]
 pub struct Effect {
     pub session: Session,
     pub line: Line,
 }
 
-// The session after some turns, the place of the next record, and the place past the bytes that were put.
+// The session after some turns, the place of the next record, and the place past the bytes that were put. The buffer for them
+// is lent, with the place beside it: there is no heap, and the room for a line is there before it is put and not after.
 #[derive(Clone, Copy)]
 pub struct Passed {
     pub session: Session,
@@ -70,12 +72,7 @@ pub const LINE_ROOM: usize = 64;
 pub fn under_way(mode: Mode) -> bool
     ensures { result ≡ under_way mode }
 {
-    match mode {
-        Mode::Steps { left: _, taken: _ } => true,
-        Mode::Start => false,
-        Mode::Over => false,
-        Mode::Records => false,
-    }
+    matches!(mode, Mode::Steps { .. })
 }
 
 // No windows, a fresh engine and monitor; without a CF record the width is 4 and the beats are 64.

@@ -24,10 +24,9 @@ pub fn ready(mode: Mode, left: usize, ended: bool) -> bool
     ensures { result ≡ ready_of mode left ended }
 {
     match mode {
-        Mode::Steps { left: _, taken: _ } => true,
+        Mode::Steps { .. } => true,
         Mode::Over => false,
-        Mode::Start => record_ready(left, ended),
-        Mode::Records => record_ready(left, ended),
+        Mode::Start | Mode::Records => record_ready(left, ended),
     }
 }
 

@@ -1,6 +1,6 @@
 -- Laws of what the bytes on one side answer: as those of proofs/Places.antt.
 use mathlib.Core.Path.{◌≡◌, refl, sym, ap, ap₂, ◌∙◌}
-use mathlib.Core.Bool.{false}
+use mathlib.Core.Bool.{Bool, false}
 use mathlib.Core.List.{List}
 use Prim.Native.Nat.{ℕ, zero, suc, ◌+◌, ◌-◌, ◌≤◌, ◌<◌, min}
 use native.Mathlib.Omega.{arith, min_cases}
@@ -8,14 +8,15 @@ use native.Mathlib.Nat.{not-suc-le-zero, add-zero, add-suc, suc-add, zero-add}
 use native.Mathlib.Numerals.{add-one}
 use lib.Dec.{leb}
 use borrow.Author.Tests.{leb-false, le-leb}
-use Rattle.kit.proofs.Choice.{yes}
+use Rattle.kit.specs.Choice.{either}
+use Rattle.kit.proofs.Choice.{yes, neither}
 use Rattle.memory.specs.declared.window.Window.{Window}
 use Rattle.memory.specs.declared.verdict.Verdict.{Verdict}
 use Rattle.memory.specs.declared.verdict.Verdict.TheVariants.{Okay, Slave, Decode}
 use Rattle.memory.specs.Windows.{sick}
-use Rattle.memory.specs.Verdict.{byte_of, worse, group_of}
+use Rattle.memory.specs.Verdict.{byte_of, worse, group_of, pair_of}
 use Rattle.memory.proofs.Verdicts.{worse-right-okay, worse-okay, okay-no-decode}
-use Rattle.sides.specs.Sides.{place_of, Inside, side_answer}
+use Rattle.sides.specs.Sides.{place_of, Inside, side_answer, sides_answer}
 use Rattle.sides.proofs.Places.{Along, Run, Period, over, along-head, along-tail, plain-run}
 
 worse-assoc : (u v z : Verdict) → worse (worse u v) z ≡ worse u (worse v z)
@@ -52,6 +53,12 @@ module _ (size : ℕ) (ws : List Window) where
 
   pub plain-answer : (w a k n : ℕ) → side_answer size ws (place_of false w a) k n ≡ group_of size ws (a + k) n
   plain-answer w a k n = answer-run (place_of false w a) k (a + k) n (plain-run w a k n)
+
+  -- where neither side is fixed, two groups are what the sides answer
+  pub plain-pair : (f g : Bool) (w a b k n : ℕ) → either f g ≡ false
+      → pair_of size ws (a + k) (b + k) n ≡ sides_answer size ws (place_of f w a) (place_of g w b) k n
+  plain-pair f g w a b k n e =
+      let h = neither f g e in rw (h.0, h.1) (sym (ap₂ worse (plain-answer w a k n) (plain-answer w b k n)))
 
   module _ (place : ℕ → ℕ) where
     pub answer-append : (k a b : ℕ) → side_answer size ws place k (a + b) ≡ worse (side_answer size ws place k a) (side_answer size ws place (k + a) b)
@@ -111,3 +118,8 @@ module _ (size : ℕ) (ws : List Window) where
           (λ l q. ap (side_answer size ws place k) (omega arith))
           (λ l q. let parts : n ≡ w + (n - w) = omega arith in
           ap (side_answer size ws place k) parts ∙ answer-more k (n - w) ∙ ap (side_answer size ws place k) (sym (e ∙ q)))
+
+  pub sides-inside : (reads writes : ℕ → ℕ) (k n : ℕ) → sides_answer size ws reads writes k n ≡ Okay → Inside size reads k n × Inside size writes k n
+  sides-inside reads writes k n e =
+      let each = worse-okay (side_answer size ws reads k n) (side_answer size ws writes k n) e in
+      (answer-inside reads k n each.0, answer-inside writes k n each.1)

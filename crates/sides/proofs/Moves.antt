@@ -10,7 +10,7 @@ use Rattle.memory.specs.Burst.{copied}
 use Rattle.memory.proofs.Stores.{sets-part}
 use Rattle.sides.specs.Sides.{place_of, Inside, side_read, side_written, sides_moved}
 use Rattle.sides.proofs.Places.{plain-run, plain-written, length-read, read-run, read_at, written_at, moved-along, moved-last}
-use Rattle.sides.proofs.Parts.{part_length}
+use Rattle.memory.proofs.Copies.{part_length}
 use Rattle.sides.proofs.Words.{word-again, word-phase}
 
 -- n bytes from byte k on, of which c are kept

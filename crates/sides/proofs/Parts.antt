@@ -1,35 +1,15 @@
--- Parts of memory that are copied: one part, and the bytes of a burst that doubles what it has written.
+-- The bytes of a burst that doubles what it has written.
 use mathlib.Core.Path.{◌≡◌, sym, ap, ◌∙◌}
-use mathlib.Core.List.{List, ◌++◌, append_assoc}
-use Prim.Native.Nat.{ℕ, ◌+◌, ◌-◌, ◌≤◌}
+use mathlib.Core.List.{List}
+use Prim.Native.Nat.{ℕ, ◌+◌, ◌≤◌}
 use native.Mathlib.Omega.{arith}
-use lib.ListN.{length, take, drop, length-drop}
-use lib.Seq.{sets, sets-eq, take-take, drop-drop, length-take-le}
-use borrow.Rule.Slice.PartMut.{put_mid}
+use lib.ListN.{length, take, drop}
+use lib.Seq.{sets, take-take}
 use Rattle.kit.proofs.Stores.{sets-append}
 use Rattle.memory.specs.Burst.{copied}
 use Rattle.memory.proofs.Stores.{sets-part}
 use Rattle.sides.specs.Sides.{side_read}
 use Rattle.sides.proofs.Places.{Period, length-read, read-append, read_again}
-
-pub part_length : (m : List ℕ) (a n : ℕ) → a + n ≤ length m → length (take n (drop a m)) ≡ n
-part_length m a n fits = length-take-le n (drop a m) (simp length-drop (omega arith))
-
--- what a copy leaves in a part, `put`, of the part s: the code's parts end at a + n, so their lengths are differences
-pub copied-part : (s m : List ℕ) (at to n : ℕ) → at + n ≤ length s → to + n ≤ length m → (put : List ℕ)
-    → put ≡ take (at + n - at) (drop at s)
-    → put_mid to (to + n - to) m put ≡ sets m to (take n (drop at s))
-copied-part s m at to n source target put whole =
-    let x : List ℕ = take (at + n - at) (drop at s) in
-    let width : at + n - at ≡ n = omega arith in
-    let same : x ≡ take n (drop at s) = ap (λ (k : ℕ). take k (drop at s)) width in
-    let long : length x ≡ n = ap length same ∙ part_length s at n source in
-    let end : to + (to + n - to) ≡ to + length x = omega arith in
-    ap (put_mid to (to + n - to) m) whole
-    ∙ ap (λ (l : List ℕ). take to m ++ (x ++ l)) (drop-drop (to + n - to) to m ∙ ap (λ (k : ℕ). drop k m) end)
-    ∙ sym (append_assoc (take to m) x (drop (to + length x) m))
-    ∙ sym (sets-eq x m to (omega arith))
-    ∙ ap (sets m to) same
 
 -- m is s with d bytes of a side at `to`, and n of them more are copied from there
 pub doubled : (s m : List ℕ) (place : ℕ → ℕ) (to k d n : ℕ) → Period place d → n ≤ d → to + d ≤ length s

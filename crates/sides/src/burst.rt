@@ -3,8 +3,11 @@ ghost use Rattle.std.specs.Prelude.{◌≡◌, true, false, ◌≤◌, ◌<◌, 
 ghost use Rattle.memory.specs.Burst.{longest_burst};
 ghost use Rattle.sides.specs.Sides.{place_of, Inside, sides_moved};
 
-use crate::word::{LONGEST_WORD, copy_part, least, read_word, write_word};
+use crate::side::Side;
+use crate::word::{LONGEST_WORD, copy_part, read_word, write_word};
 use memory::burst::copy;
+
+// The three that follow are alike in what they are handed alone: which side is fixed makes each a rule of its own.
 
 // From a fixed word: it is written once, and what is written then doubles until all of the burst is there.
 fn fill(
@@ -21,13 +24,14 @@ fn fill(
     ensures { memory.new ≡ sides_moved memory.old (place_of true width source) (place_of false width destination) from count }
 {
     let mut held = [0u8; LONGEST_WORD];
-    let first = least(count, width);
+    let first = count.min(width);
     read_word(memory, width, source, from, first, &mut held);
     let to = destination + from;
     copy_part(&held, 0, first, memory, to);
     let mut done = first;
+    // What is there doubles from turn to turn: no iterator counts that.
     while done < count {
-        let more = least(done, count - done);
+        let more = done.min(count - done);
         copy(memory, to, to + done, more);
         done += more;
     }
@@ -48,7 +52,7 @@ fn push(
     ensures { memory.new ≡ sides_moved memory.old (place_of false width source) (place_of true width destination) from count }
 {
     let mut held = [0u8; LONGEST_WORD];
-    let kept = least(count, width);
+    let kept = count.min(width);
     let last = from + (count - kept);
     copy_part(memory, source + last, kept, &mut held, 0);
     write_word(memory, width, destination, last, kept, &held);
@@ -69,7 +73,7 @@ fn pass(
     ensures { memory.new ≡ sides_moved memory.old (place_of true width source) (place_of true width destination) from count }
 {
     let mut held = [0u8; LONGEST_WORD];
-    let kept = least(count, width);
+    let kept = count.min(width);
     let last = from % width + (count - kept);
     read_word(memory, width, source, last, kept, &mut held);
     write_word(memory, width, destination, last, kept, &held);
@@ -79,29 +83,27 @@ fn pass(
 pub fn move_bytes(
     memory: &mut [u8],
     width: usize,
-    sourcefixed: bool,
-    destinationfixed: bool,
-    source: usize,
-    destination: usize,
+    source: Side,
+    destination: Side,
     from: usize,
     count: usize,
 )
     requires width_nonzero { (0 < width) × (width ≤ 128) × (0 < count) × (count ≤ longest_burst) }
-    requires inside { Inside (length memory.old) (place_of sourcefixed width source) from count }
-    requires inside_2 { Inside (length memory.old) (place_of destinationfixed width destination) from count }
-    ensures { memory.new ≡ sides_moved memory.old (place_of sourcefixed width source) (place_of destinationfixed width destination) from count }
+    requires inside { Inside (length memory.old) (place_of source.fixed width source.start) from count }
+    requires inside_2 { Inside (length memory.old) (place_of destination.fixed width destination.start) from count }
+    ensures { memory.new ≡ sides_moved memory.old (place_of source.fixed width source.start) (place_of destination.fixed width destination.start) from count }
 {
-    if sourcefixed {
-        if destinationfixed {
-            pass(memory, width, source, destination, from, count);
+    let reads = source.start;
+    let writes = destination.start;
+    if source.fixed {
+        if destination.fixed {
+            pass(memory, width, reads, writes, from, count);
         } else {
-            fill(memory, width, source, destination, from, count);
+            fill(memory, width, reads, writes, from, count);
         }
+    } else if destination.fixed {
+        push(memory, width, reads, writes, from, count);
     } else {
-        if destinationfixed {
-            push(memory, width, source, destination, from, count);
-        } else {
-            copy(memory, source + from, destination + from, count);
-        }
+        copy(memory, reads + from, writes + from, count);
     }
 }

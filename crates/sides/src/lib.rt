@@ -4,4 +4,5 @@
 mod answer;
 pub mod burst;
 pub mod carry;
+pub mod side;
 mod word;

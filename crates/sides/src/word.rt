@@ -1,17 +1,11 @@
 // The word of a fixed side. Bytes of a transfer, no more than a word, lie in it in two parts: up to the word's end, and
 // from its front on.
-ghost use Rattle.std.specs.Prelude.{◌≡◌, true, ◌+◌, ◌≤◌, ◌<◌, min, length, take, drop};
+ghost use Rattle.std.specs.Prelude.{◌≡◌, true, ◌+◌, ◌≤◌, ◌<◌, length, take, drop};
 ghost use Rattle.std.proofs.lemmas.List.Edits.{sets};
 ghost use Rattle.sides.specs.Sides.{place_of, Inside, side_read, side_written};
 
 // No word is wider.
 pub const LONGEST_WORD: usize = 128;
-
-pub fn least(a: usize, b: usize) -> usize
-    ensures { result ≡ min a b }
-{
-    if a < b { a } else { b }
-}
 
 // Copies `count` bytes of `source` from `at` on to `target` from `to` on.
 pub fn copy_part(source: &[u8], at: usize, count: usize, target: &mut [u8], to: usize)
@@ -37,7 +31,7 @@ pub fn read_word(
     ensures { take count held.new ≡ side_read memory.now (place_of true width start) from count }
 {
     let offset = from % width;
-    let first = least(count, width - offset);
+    let first = count.min(width - offset);
     copy_part(memory, start + offset, first, held, 0);
     copy_part(memory, start, count - first, held, first);
 }
@@ -56,7 +50,7 @@ pub fn write_word(
     ensures { memory.new ≡ side_written memory.old (place_of true width start) from (take count held.now) }
 {
     let offset = from % width;
-    let first = least(count, width - offset);
+    let first = count.min(width - offset);
     copy_part(held, 0, first, memory, start + offset);
     copy_part(held, first, count - first, memory, start);
 }

@@ -1,12 +1,11 @@
 -- Words that are found spelled are those of the engine that they spell, and words that are found sound are those of a well-formed one.
 use mathlib.Core.Path.{◌≡◌, refl, sym, ap, subst, ◌∙◌}
-use Prim.Native.Nat.{ℕ, zero, suc, ◌+◌, ◌%◌, ◌≤◌, ◌<◌}
+use Prim.Native.Nat.{ℕ, zero, suc, ◌%◌, ◌<◌}
 use mathlib.Core.Bool.{Bool, true, false, ◌&&◌, ◌||◌, not}
 use mathlib.Core.List.{List, [], ◌∷◌}
 use mathlib.Core.Logic.{◌⊎◌, inl, inr}
 use native.Mathlib.Omega.{arith}
-use lib.ListN.{length, drop, drop_of_length-le}
-use lib.Seq.{drop-cons}
+use lib.ListN.{length}
 use lib.Dec.{eqb, ltb, leb}
 use borrow.Author.Tests.{ltb-true, eqb-true}
 use Rattle.kit.specs.Choice.{when, both}
@@ -25,6 +24,7 @@ use Rattle.state.proofs.WellFormed.{joined, parts, not-both}
 use Rattle.words.specs.EngineWords.{word, truth, phase_number_of, none, moving_of, words_of, error_bit_from, phase_from, pointers_from, transfer_from, engine_from, same_words}
 use Rattle.spelling.specs.Spelling.{whole_of, truths_of, bit_listed_of, phase_listed_of, still_of, spelled_of, aligned_of, inside_of, fits_of, phase_sound_of, sound_of}
 use Rattle.words.proofs.Same.{same-equal, same-itself}
+use Rattle.words.proofs.Written.{listed, listed-drop}
 
 -- ---- tests joined
 
@@ -76,18 +76,6 @@ phases : (P : ℕ → Type 0) (n : ℕ) → P 0 → P 1 → P 2 → P 28 → P 2
 phases P n a b c d e f g = more P n 31 (more P n 30 (more P n 29 (more P n 28 (more P n 2 (more P n 1 (first P n 0 a) b) c) d) e) f) g
 
 -- ---- spelled
-
--- a list is the words at its places, from i on
-listed : (w : List ℕ) → ℕ → ℕ → List ℕ
-listed w zero i = []
-listed w (suc n) i = word w i ∷ listed w n (suc i)
-
-listed-drop : (w : List ℕ) (n i : ℕ) → n + i ≡ length w → drop i w ≡ listed w n i
-unfolding listed
-listed-drop w zero i e =
-    let all : length w ≤ i = omega arith in
-    drop_of_length-le w all
-listed-drop w (suc n) i e = drop-cons w i 0 (omega arith) ∙ ap (λ (l : List ℕ). word w i ∷ l) (listed-drop w n (suc i) (omega arith))
 
 truth-kept : (x : ℕ) → ltb x 2 ≡ true → truth (eqb x 1) ≡ x
 truth-kept x e = go x (ltb-true x 2 e)

@@ -31,30 +31,18 @@ fn truths(words: &[u32; 22]) -> bool
         & (words[21] < 2)
 }
 
-// The number of an error bit, or 0 for none.
+// The number of an error bit, or 0 for none: C keeps the number.
 fn bit_listed(number: u32) -> bool
     ensures { result ≡ bit_listed_of number }
 {
-    (number == 0)
-        | (number == 4)
-        | (number == 5)
-        | (number == 6)
-        | (number == 8)
-        | (number == 9)
-        | (number == 10)
+    matches!(number, 0 | 4..=6 | 8..=10)
 }
 
-// The number of a phase.
+// The number of a phase, which C keeps too.
 fn phase_listed(number: u32) -> bool
     ensures { result ≡ phase_listed_of number }
 {
-    (number == 0)
-        | (number == 1)
-        | (number == 2)
-        | (number == 28)
-        | (number == 29)
-        | (number == 30)
-        | (number == 31)
+    matches!(number, 0..=2 | 28..=31)
 }
 
 // No transfer.
@@ -84,9 +72,7 @@ fn ill_formed(settings: Settings) -> Engine
     Engine {
         pointers: Pointers {
             current: 1,
-            tail: 0,
-            next: 0,
-            heldnext: 0,
+            ..engine.pointers
         },
         ..engine
     }
@@ -141,14 +127,11 @@ fn fits(words: &[u32; 22]) -> bool
 fn phase_sound(words: &[u32; 22]) -> bool
     ensures { result ≡ phase_sound_of words.now }
 {
-    let number = words[15];
-    if number == 0 {
-        return bit_listed(words[5]) & still(words);
+    match words[15] {
+        0 => bit_listed(words[5]) & still(words),
+        2 => (words[5] == 0) & fits(words),
+        number => phase_listed(number) & (words[5] == 0) & (words[2] == 1) & still(words),
     }
-    if number == 2 {
-        return (words[5] == 0) & fits(words);
-    }
-    phase_listed(number) & (words[5] == 0) & (words[2] == 1) & still(words)
 }
 
 // Whether a well-formed engine has these words.

@@ -1,5 +1,5 @@
 -- A transfer that moves is the one asked for, from its first byte on, and it fits.
-use mathlib.Core.Path.{◌≡◌, refl, sym, ap, subst}
+use mathlib.Core.Path.{◌≡◌, refl, sym, subst}
 use mathlib.Core.Logic.{◌⊎◌, inl, inr}
 use Prim.Native.Nat.{ℕ, ◌%◌, ◌≤◌, ◌<◌}
 use native.Mathlib.Omega.{arith}
@@ -9,8 +9,7 @@ use borrow.Author.Tests.{eq-eqb, eqb-true, eqb-false}
 use Rattle.kit.specs.Choice.{both}
 use Rattle.kit.specs.Limits.{most_bytes, address_end}
 use Rattle.kit.proofs.Choice.{yes, no, cases, decide, never, both_left, both_right, both-join}
-use Rattle.state.specs.declared.descriptor.Start.{Start}
-use Rattle.state.specs.declared.descriptor.Start.TheVariants.{Moves, Internal}
+use Rattle.std.specs.Prelude.{Option, Some, None}
 use Rattle.state.specs.declared.engine.Control.{Control}
 use Rattle.state.specs.declared.engine.Transfer.{Transfer}
 use Rattle.state.specs.Claims.{Suited}
@@ -27,26 +26,17 @@ multiples true w start count e _ =
     (eqb-true (start % w) 0 (both_left (eqb (start % w) 0) (eqb (count % w) 0) e), eqb-true (count % w) 0 (both_right (eqb (start % w) 0) (eqb (count % w) 0) e))
 multiples false w start count e f = absurd (never f)
 
-moves : Start → Bool
-moves (Moves t) = true
-moves Internal = false
-
 module _ (w : ℕ) (c : Control) (source destination count : ℕ) (t : Transfer) where
   pub record Started : Type 0 where
     pub suited : Suited w c source destination count
     pub same : t ≡ asked source destination count
 
-  moved : Start → Transfer
-  moved (Moves x) = x
-  moved Internal = t
-
-  pub started : start_of w c source destination count ≡ Moves t → Started
-  unfolding moves moved
+  pub started : start_of w c source destination count ≡ Some t → Started
   started =
       let reads = suits c.keyholeread w source count in
       let writes = suits c.keyholewrite w destination count in
-      cases (λ (x : Start). x ≡ Moves t → Started) (eqb count 0) (λ _ e. absurd (never (ap moves e)))
-      (λ z. cases (λ (x : Start). x ≡ Moves t → Started) (both reads writes)
+      cases (λ (x : Option Transfer). x ≡ Some t → Started) (eqb count 0) (λ _ e. cc)
+      (λ z. cases (λ (x : Option Transfer). x ≡ Some t → Started) (both reads writes)
       (λ b e. let some = eqb-false count 0 z in
       record {
         suited = record {
@@ -54,14 +44,14 @@ module _ (w : ℕ) (c : Control) (source destination count : ℕ) (t : Transfer)
           read = multiples c.keyholeread w source count (both_left reads writes b);
           write = multiples c.keyholewrite w destination count (both_right reads writes b);
         };
-        same = sym (ap moved e);
+        same = cc;
       })
-      (λ _ e. absurd (never (ap moves e))))
+      (λ _ e. cc))
 
-  pub start-suits : start_of w c source destination count ≡ Moves t → Suited w c source destination count
+  pub start-suits : start_of w c source destination count ≡ Some t → Suited w c source destination count
   start-suits e = (started e).suited
 
-  pub start_fits : start_of w c source destination count ≡ Moves t → source < address_end → destination < address_end → count ≤ most_bytes → transfer_fits t ≡ true
+  pub start_fits : start_of w c source destination count ≡ Some t → source < address_end → destination < address_end → count ≤ most_bytes → transfer_fits t ≡ true
   start_fits e f g h =
       let s = started e in
       subst (λ (x : Transfer). transfer_fits x ≡ true) (sym s.same)
@@ -79,7 +69,7 @@ above n h (inl e) = let z = eqb-true n 0 e in absurd (omega (arith, z, h))
 above n h (inr e) = e
 
 pub suited-starts : (w : ℕ) (c : Control) (source destination count : ℕ) → Suited w c source destination count
-    → start_of w c source destination count ≡ Moves (asked source destination count)
+    → start_of w c source destination count ≡ Some (asked source destination count)
 suited-starts w c source destination count h =
-    sym (no Internal (above count h.some (decide (eqb count 0)))
-    (yes Internal (both-join (suited c.keyholeread w source count h.read) (suited c.keyholewrite w destination count h.write)) refl))
+    sym (no None (above count h.some (decide (eqb count 0)))
+    (yes None (both-join (suited c.keyholeread w source count h.read) (suited c.keyholewrite w destination count h.write)) refl))

@@ -1,27 +1,17 @@
 -- A state that is well formed, as named facts: from the test and back to it.
-use mathlib.Core.Path.{◌≡◌, refl, sym, ap, ◌∙◌}
-use mathlib.Core.Logic.{◌⊎◌, inl, inr}
-use native.Mathlib.Omega.{arith}
-use Prim.Native.Nat.{ℕ, ◌+◌, ◌-◌, ◌%◌, ◌<◌}
+use mathlib.Core.Path.{◌≡◌, refl, ap}
+use Prim.Native.Nat.{ℕ, ◌+◌, ◌%◌}
 use mathlib.Core.Bool.{Bool, true, false, not}
 use lib.Dec.{eqb, leb, ltb}
-use borrow.Author.Tests.{eqb-true, eq-eqb, ltb-true, lt-ltb, le-ltb, leb-true, leb-false, le-leb}
+use borrow.Author.Tests.{eqb-true, eq-eqb, ltb-true, lt-ltb, leb-true, le-leb}
 use Rattle.kit.specs.Choice.{both}
 use Rattle.kit.specs.Limits.{most_bytes, address_end}
-use Rattle.kit.proofs.Choice.{both_left, both_right, both-join, decide, never}
+use Rattle.kit.proofs.Choice.{both_left, both_right, both-join, never}
 use Rattle.kit.specs.declared.settings.Settings.{Settings}
 use Rattle.state.specs.declared.engine.Transfer.{Transfer}
 use Rattle.state.specs.declared.engine.Engine.{Engine}
 pub use Rattle.state.specs.Claims.{TransferFits, WellFormed}
 use Rattle.state.specs.State.{fresh_of, busy_of, error_set_of, aligned, transfer_fits, phase_fits, well_formed_of}
-
--- an offset within the room above an address
-pub room-above : (a n : ℕ) → a < address_end → leb n (4294967295 - a) ≡ ltb (a + n) address_end
-room-above a n h = go (decide (leb n (4294967295 - a)))
-  where
-    go : (leb n (4294967295 - a) ≡ true) ⊎ (leb n (4294967295 - a) ≡ false) → leb n (4294967295 - a) ≡ ltb (a + n) address_end
-    go (inl e) = let le = leb-true n (4294967295 - a) e in e ∙ sym (lt-ltb (a + n) address_end (omega (arith, le, h)))
-    go (inr e) = let gt = leb-false n (4294967295 - a) e in e ∙ sym (le-ltb (a + n) address_end (omega (arith, gt, h)))
 
 -- four tests joined, and each of them
 four : (t u v w : Bool) → both t (both u (both v w)) ≡ true → (t ≡ true) × (u ≡ true) × (v ≡ true) × (w ≡ true)

@@ -1,8 +1,7 @@
 -- What is proved of the state: proofs/Claims.antt.
-use Rattle.std.specs.Prelude.{◌≡◌, ℕ, ◌+◌, ◌%◌, ◌≤◌, ◌<◌, true, false}
+use Rattle.std.specs.Prelude.{◌≡◌, ℕ, ◌+◌, ◌%◌, ◌≤◌, ◌<◌, true, false, Some}
 use Rattle.kit.specs.Limits.{most_bytes, address_end}
 use Rattle.kit.specs.declared.settings.Settings.{Settings}
-use Rattle.state.specs.declared.descriptor.Start.TheVariants.{Moves}
 use Rattle.state.specs.declared.engine.Control.{Control}
 use Rattle.state.specs.declared.engine.Transfer.{Transfer}
 use Rattle.state.specs.declared.engine.Engine.{Engine}
@@ -41,11 +40,11 @@ pub record Claims : Type 0 where
   pub well-formed-test : (s : Engine) → WellFormed s → well_formed_of s ≡ true
   -- a fresh state is well formed, and a transfer of 32-bit addresses and 23-bit count fits at its start
   pub fresh-well-formed : (x : Settings) → well_formed_of (fresh_of x) ≡ true
-  pub start_fits : (w : ℕ) (c : Control) (source destination count : ℕ) (t : Transfer) → start_of w c source destination count ≡ Moves t → source < address_end
+  pub start_fits : (w : ℕ) (c : Control) (source destination count : ℕ) (t : Transfer) → start_of w c source destination count ≡ Some t → source < address_end
       → destination < address_end → count ≤ most_bytes → transfer_fits t ≡ true
   -- a transfer that moves has bytes, and the start and the count of a fixed side are multiples of the width
-  pub start-suits : (w : ℕ) (c : Control) (source destination count : ℕ) (t : Transfer) → start_of w c source destination count ≡ Moves t
+  pub start-suits : (w : ℕ) (c : Control) (source destination count : ℕ) (t : Transfer) → start_of w c source destination count ≡ Some t
       → Suited w c source destination count
   -- and any such transfer moves, from its first byte on
   pub suited-starts : (w : ℕ) (c : Control) (source destination count : ℕ) → Suited w c source destination count
-      → start_of w c source destination count ≡ Moves (record { source = source; destination = destination; total = count; moved = 0 })
+      → start_of w c source destination count ≡ Some (record { source = source; destination = destination; total = count; moved = 0 })

@@ -1,11 +1,10 @@
 -- RULES.md, "Descriptor and steps": a descriptor's layout, and where a transfer starts.
-use Rattle.std.specs.Prelude.{ℕ, ◌+◌, ◌%◌, ◌^◌, Bool, not, List, eqb}
+use Rattle.std.specs.Prelude.{ℕ, ◌+◌, ◌%◌, ◌^◌, Bool, not, List, Option, Some, None, eqb}
 use Rattle.kit.specs.Choice.{when, both, either}
 use Rattle.kit.specs.Word.{word_at}
 use Rattle.state.specs.declared.descriptor.Descriptor.{Descriptor}
-use Rattle.state.specs.declared.descriptor.Start.{Start}
-use Rattle.state.specs.declared.descriptor.Start.TheVariants.{Moves, Internal}
 use Rattle.state.specs.declared.engine.Control.{Control}
+use Rattle.state.specs.declared.engine.Transfer.{Transfer}
 use Rattle.state.specs.Bits.{bit, pointer}
 
 -- 32 bytes, at a pointer
@@ -50,11 +49,11 @@ descriptor_at m at = record {
 abbrev pub suits : Bool → ℕ → ℕ → ℕ → Bool
 suits fixed w start count = either (not fixed) (both (eqb (start % w) 0) (eqb (count % w) 0))
 
--- where a transfer starts, at its fetch or its BTT write: a count of 0 is an internal error, and so is, right after it, a
--- fixed side off the multiples; any other transfer moves
-abbrev pub start_of : ℕ → Control → ℕ → ℕ → ℕ → Start
+-- where a transfer starts, at its fetch or its BTT write: a count of 0 is an internal error, None, and so is, right after
+-- it, a fixed side off the multiples; any other transfer moves
+abbrev pub start_of : ℕ → Control → ℕ → ℕ → ℕ → Option Transfer
 start_of w c source destination count =
-    when (eqb count 0) Internal
+    when (eqb count 0) None
     (when (both (suits c.keyholeread w source count) (suits c.keyholewrite w destination count))
-    (Moves (record { source = source; destination = destination; total = count; moved = 0 }))
-    Internal)
+    (Some (record { source = source; destination = destination; total = count; moved = 0 }))
+    None)

@@ -5,7 +5,6 @@ ghost use Rattle.state.specs.Descriptor.{descriptor_bytes, count_of, descriptor_
 
 use crate::bits::bit;
 use crate::engine::{Control, Transfer};
-use kit::logic::both;
 use kit::word::load;
 
 // A descriptor's bytes; it lies at a multiple of ALIGNMENT.
@@ -35,13 +34,6 @@ pub struct Descriptor {
     pub destination: u32,
     pub count: u32,
     pub stale: bool,
-}
-
-// How a transfer starts: it moves, or it ends with an internal error.
-#[derive(Clone, Copy)]
-pub enum Start {
-    Moves(Transfer),
-    Internal,
 }
 
 // The pointer in a value: its low six bits are dropped.
@@ -77,34 +69,31 @@ fn suits(fixed: bool, width: u32, start: u32, count: u32) -> bool
     requires { 0 < width }
     ensures { result ≡ suits_of fixed width start count }
 {
-    if fixed {
-        return both(start % width == 0, count % width == 0);
-    }
-    true
+    !fixed || ((start % width == 0) & (count % width == 0))
 }
 
-// A transfer at its start, by a fetch or a BTT write: a count of 0 is an internal error, and so is a fixed side off the
-// multiples of the width.
+// A transfer at its start, by a fetch or a BTT write. A count of 0 is an internal error, and so is a fixed side off the
+// multiples of the width: nothing starts.
 pub fn start_transfer(
     width: u32,
     control: Control,
     source: u32,
     destination: u32,
     count: u32,
-) -> Start
+) -> Option<Transfer>
     requires { 0 < width }
     ensures { result ≡ start_of width control source destination count }
 {
     if count == 0 {
-        return Start::Internal;
+        return None;
     }
     if !suits(control.keyholeread, width, source, count) {
-        return Start::Internal;
+        return None;
     }
     if !suits(control.keyholewrite, width, destination, count) {
-        return Start::Internal;
+        return None;
     }
-    Start::Moves(Transfer {
+    Some(Transfer {
         source,
         destination,
         total: count,

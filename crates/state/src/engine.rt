@@ -1,14 +1,17 @@
 // The engine's state. What only a phase needs lives in that phase; what outlives it stands beside it.
 ghost use Rattle.std.specs.Prelude.{◌≡◌, ◌+◌, ltb};
+ghost use Rattle.kit.specs.Answer.{answer_number};
+ghost use Rattle.kit.specs.Choice.{when};
 ghost use Rattle.kit.specs.Limits.{address_end};
+ghost use Rattle.kit.specs.Settings.{legal_of};
 ghost use Rattle.state.specs.Bits.{error_bit_of};
 ghost use Rattle.state.specs.State.{fresh_of, busy_of, error_set_of, aligned, transfer_fits, phase_fits, well_formed_of, interrupt_line_of};
 
 use crate::bits::{DMA_DEC_ERR, DMA_INT_ERR, DMA_SLV_ERR, SG_DEC_ERR, SG_INT_ERR, SG_SLV_ERR};
 use crate::descriptor::ALIGNMENT;
+use kit::answer::{Answer, Refusal};
 use kit::limits::MOST_BYTES;
-use kit::logic::{both, either};
-use kit::settings::Settings;
+use kit::settings::{Settings, legal};
 
 // CDMACR's kept bits: SGMode, Key Hole Read and Write (source and destination fixed), IOC_IrqEn, Err_IrqEn.
 #[derive(Clone, Copy)]
@@ -20,7 +23,8 @@ pub struct Control {
     pub erren: bool,
 }
 
-// CDMASR's error bits: at most one of them is ever set, as an error halts the engine and only a reset goes on.
+// CDMASR's error bits: at most one of them is ever set, as an error halts the engine and only a reset goes on. `Clear`, that
+// none is set, stands in one list with them, as its number 0 does in C's words: an Option of a bit is no plainer.
 #[derive(Clone, Copy)]
 pub enum ErrorBit {
     Clear,
@@ -130,27 +134,14 @@ pub fn fresh(settings: Settings) -> Engine
 pub fn busy(phase: Phase) -> bool
     ensures { result ≡ busy_of phase }
 {
-    match phase {
-        Phase::Idle => false,
-        Phase::Fetch => true,
-        Phase::Move(_) => true,
-        Phase::Update(_) => true,
-    }
+    !matches!(phase, Phase::Idle)
 }
 
 // An error bit is set.
 pub fn error_set(bit: ErrorBit) -> bool
     ensures { result ≡ error_set_of bit }
 {
-    match bit {
-        ErrorBit::Clear => false,
-        ErrorBit::DmaIntErr => true,
-        ErrorBit::DmaSlvErr => true,
-        ErrorBit::DmaDecErr => true,
-        ErrorBit::SgIntErr => true,
-        ErrorBit::SgSlvErr => true,
-        ErrorBit::SgDecErr => true,
-    }
+    !matches!(bit, ErrorBit::Clear)
 }
 
 // The number of a CDMASR error bit.
@@ -171,40 +162,26 @@ pub fn bit_number(bit: ErrorBit) -> u32
 fn pointers_aligned(pointers: Pointers) -> bool
     ensures { result ≡ aligned pointers }
 {
-    both(
-        pointers.current % ALIGNMENT == 0,
-        both(
-            pointers.tail % ALIGNMENT == 0,
-            both(
-                pointers.next % ALIGNMENT == 0,
-                pointers.heldnext % ALIGNMENT == 0,
-            ),
-        ),
-    )
+    (pointers.current % ALIGNMENT == 0)
+        & (pointers.tail % ALIGNMENT == 0)
+        & (pointers.next % ALIGNMENT == 0)
+        & (pointers.heldnext % ALIGNMENT == 0)
 }
-
-const LAST_ADDRESS: u32 = 0xffffffff;
 
 // The byte `moved` bytes on is an address; told by the room above the start, so no sum can overflow.
 fn inside(start: u32, moved: u32) -> bool
     ensures { result ≡ ltb (start + moved) address_end }
 {
-    moved <= LAST_ADDRESS - start
+    moved <= u32::MAX - start
 }
 
 fn transfer_fits(transfer: Transfer) -> bool
     ensures { result ≡ transfer_fits transfer }
 {
-    both(
-        transfer.moved < transfer.total,
-        both(
-            transfer.total <= MOST_BYTES,
-            both(
-                inside(transfer.source, transfer.moved),
-                inside(transfer.destination, transfer.moved),
-            ),
-        ),
-    )
+    (transfer.moved < transfer.total)
+        & (transfer.total <= MOST_BYTES)
+        & inside(transfer.source, transfer.moved)
+        & inside(transfer.destination, transfer.moved)
 }
 
 fn phase_fits(phase: Phase, sgmode: bool) -> bool
@@ -219,31 +196,34 @@ fn phase_fits(phase: Phase, sgmode: bool) -> bool
 }
 
 // The state is well formed.
+#[tactic(auto, unfolding(crate::specs::State::well_formed_of))]
 pub fn well_formed(engine: Engine) -> bool
     ensures { result ≡ well_formed_of engine }
 {
-    let pointers = engine.pointers;
-    let status = engine.status;
-    let fault = status.fault;
-    let phase = engine.phase;
-    both(
-        pointers_aligned(pointers),
-        both(
-            engine.simple.btt <= MOST_BYTES,
-            both(
-                !both(error_set(fault), busy(phase)),
-                phase_fits(phase, engine.control.sgmode),
-            ),
-        ),
-    )
+    let faulty = error_set(engine.status.fault);
+    pointers_aligned(engine.pointers)
+        & (engine.simple.btt <= MOST_BYTES)
+        & !(faulty & busy(engine.phase))
+        & phase_fits(engine.phase, engine.control.sgmode)
+}
+
+// What a register access and a look at the interrupt line judge first: settings that are not legal are refused with 1, and
+// then a state that is not well formed with 9.
+pub fn acceptable(engine: Engine) -> Answer
+    ensures { answer_number result ≡ when (legal_of engine.settings) (when (well_formed_of engine) 0 9) 1 }
+{
+    if !legal(engine.settings) {
+        return Err(Refusal::Settings);
+    }
+    if !well_formed(engine) {
+        return Err(Refusal::State);
+    }
+    Ok(())
 }
 
 // The interrupt line: a cause that stands and is enabled.
 pub fn interrupt_line(engine: Engine) -> bool
     ensures { result ≡ interrupt_line_of engine }
 {
-    either(
-        both(engine.status.ioc, engine.control.iocen),
-        both(engine.status.err, engine.control.erren),
-    )
+    (engine.status.ioc & engine.control.iocen) | (engine.status.err & engine.control.erren)
 }

@@ -1,6 +1,8 @@
-// The engine's state, what makes it well formed, its registers' bits and interrupt line, and a descriptor's layout.
+// The engine's state, what makes it well formed, its registers' bits and interrupt line, a descriptor's layout, and a transfer on
+// its way.
 #![tactic(auto)]
 
 pub mod bits;
 pub mod descriptor;
 pub mod engine;
+pub mod moving;

@@ -24,8 +24,7 @@ use Rattle.state.specs.declared.engine.Outcome.{Outcome}
 use Rattle.state.specs.declared.engine.Outcome.TheVariants.{Complete, Internal, Slave, Decode}
 use Rattle.state.specs.declared.engine.Phase.{Phase}
 use Rattle.state.specs.declared.engine.Phase.TheVariants.{Idle, Move, Update}
-use Rattle.state.specs.declared.descriptor.Start.{Start}
-use Rattle.state.specs.declared.descriptor.Start.TheVariants.{Moves, Internal as InternalError}
+use Rattle.std.specs.Prelude.{Option, Some, None}
 use Rattle.state.specs.declared.engine.Control.{Control}
 use Rattle.state.specs.Descriptor.{start_of}
 use Rattle.state.specs.State.{busy_of, error_set_of, phase_fits, with_status, with_phase}
@@ -113,9 +112,9 @@ start_fits : (w : ℕ) (c : Control) (source destination total : ℕ) (chain : B
     → total ≤ most_bytes → phase_fits (phase_after_fetch_of (start_of w c source destination total)) chain ≡ true
 start_fits w c source destination total chain e hs hd ht = go (start_of w c source destination total) refl
   where
-    go : (x : Start) → start_of w c source destination total ≡ x → phase_fits (phase_after_fetch_of x) chain ≡ true
-    go (Moves t) f = start.start_fits w c source destination total t f hs hd ht
-    go InternalError f = e
+    go : (x : Option Transfer) → start_of w c source destination total ≡ x → phase_fits (phase_after_fetch_of x) chain ≡ true
+    go (Some t) f = start.start_fits w c source destination total t f hs hd ht
+    go None f = e
 
 module _ (s : Engine) (m : List ℕ) (windows : List Window) (legals : legal_of s.settings ≡ true)
     (small : length m ≤ most_memory) (bytes : Bytes m) (h : WellFormed s) where

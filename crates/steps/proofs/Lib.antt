@@ -3,3 +3,4 @@ pub mod Bursts
 pub mod Incrementing
 pub mod Keeps
 pub mod Stored
+pub mod Taken

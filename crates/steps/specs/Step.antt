@@ -1,5 +1,5 @@
 -- RULES.md, "Descriptor and steps": one step does one of these: idle, fetch, move, update.
-use Rattle.std.specs.Prelude.{ℕ, ◌+◌, ◌-◌, ◌*◌, ◌^◌, min, Bool, true, List, length, eqb}
+use Rattle.std.specs.Prelude.{ℕ, ◌+◌, ◌-◌, ◌*◌, ◌^◌, min, Bool, true, List, length, eqb, Option, Some, None as Nothing}
 use Rattle.std.proofs.lemmas.List.Edits.{sets}
 use Rattle.kit.specs.Choice.{when}
 use Rattle.kit.specs.Word.{bytes_of}
@@ -20,8 +20,6 @@ use Rattle.state.specs.declared.engine.Outcome.TheVariants.{Complete, Internal, 
 use Rattle.state.specs.declared.engine.Phase.{Phase}
 use Rattle.state.specs.declared.engine.Phase.TheVariants.{Idle, Fetch, Move, Update}
 use Rattle.state.specs.declared.descriptor.Descriptor.{Descriptor}
-use Rattle.state.specs.declared.descriptor.Start.{Start}
-use Rattle.state.specs.declared.descriptor.Start.TheVariants.{Moves, Internal as InternalError}
 use Rattle.state.specs.Bits.{error_bit_of}
 use Rattle.state.specs.Descriptor.{descriptor_bytes, status_at, descriptor_at, start_of}
 use Rattle.state.specs.State.{with_phase, with_fault, with_ioc, with_err, with_current, with_next, with_heldnext}
@@ -50,12 +48,18 @@ stop_on_error_of s b = with_phase (with_err (with_fault s b) true) Idle
 abbrev pub halt_of : Engine → ErrorBit → Advanced
 halt_of s b = record { event = Halt s.pointers.current (error_bit_of b); engine = stop_on_error_of s b }
 
+-- the bit of some bytes of a descriptor, by their verdict: decode error SGDecErr, slave error SGSlvErr
+abbrev pub chain_error_of : Verdict → Option ErrorBit
+chain_error_of Okay = Nothing
+chain_error_of SlaveError = Some SgSlvErr
+chain_error_of DecodeError = Some SgDecErr
+
 -- ---- fetch
 
 -- a count of 0, or a fixed side off the multiples of the width, goes to update with DMAIntErr; any other transfer moves
-abbrev pub phase_after_fetch_of : Start → Phase
-phase_after_fetch_of (Moves t) = Move t
-phase_after_fetch_of InternalError = Update Internal
+abbrev pub phase_after_fetch_of : Option Transfer → Phase
+phase_after_fetch_of (Some t) = Move t
+phase_after_fetch_of Nothing = Update Internal
 
 -- a descriptor that memory gave; status bit 31 already set: SGIntErr
 unfoldable pub accept_of : Engine → Descriptor → Advanced

@@ -12,14 +12,14 @@ use crate::move_burst::move_burst;
 use crate::update::update;
 use state::engine::{Engine, Phase};
 
+#[tactic(auto, unfolding(crate::specs::Step::advance_of))]
 pub fn advance(engine: Engine, memory: &mut [u8], windows: &[u32]) -> Advanced
     requires settings_value { legal_of engine.settings ≡ true }
     requires engine_value { well_formed_of engine ≡ true }
     requires memory_len_bound { length memory.old ≤ most_memory }
     ensures { advance_seen result memory.new ≡ advance_of engine memory.old (windows_of windows.now) }
 {
-    let phase = engine.phase;
-    match phase {
+    match engine.phase {
         Phase::Idle => Advanced {
             event: Event::None,
             engine,

@@ -1,4 +1,5 @@
-// What one step reports.
+// What one step reports. `None` stands in one list with the events, as its number 0 does in what C is handed: an Option of an
+// event is no plainer.
 use cut::Burst;
 use state::engine::Engine;
 

@@ -4,22 +4,22 @@ ghost use Rattle.memory.specs.Windows.{windows_of};
 ghost use Rattle.steps.specs.Step.{phase_after_fetch_of, accept_of, fetch_of};
 
 use crate::event::{Advanced, Event};
-use crate::halt::halt;
-use memory::verdict::{Verdict, judge};
-use state::descriptor::{BYTES, Descriptor, Start, load_descriptor, start_transfer};
-use state::engine::{Engine, ErrorBit, Outcome, Phase, Pointers};
+use crate::halt::{chain_error, halt};
+use state::descriptor::{BYTES, Descriptor, load_descriptor, start_transfer};
+use state::engine::{Engine, ErrorBit, Outcome, Phase, Pointers, Transfer};
 
 // A transfer that does not start goes to update with an internal error.
-fn phase_after_fetch(start: Start) -> Phase
+fn phase_after_fetch(start: Option<Transfer>) -> Phase
     ensures { result ≡ phase_after_fetch_of start }
 {
     match start {
-        Start::Moves(transfer) => Phase::Move(transfer),
-        Start::Internal => Phase::Update(Outcome::Internal),
+        Some(transfer) => Phase::Move(transfer),
+        None => Phase::Update(Outcome::Internal),
     }
 }
 
 // A descriptor that memory gave: a stale one halts.
+#[tactic(auto, unfolding(crate::specs::Step::accept_of))]
 fn accept(engine: Engine, descriptor: Descriptor) -> Advanced
     requires { 0 < engine.settings.width }
     ensures { result ≡ accept_of engine descriptor }
@@ -54,10 +54,8 @@ pub fn fetch(engine: Engine, memory: &[u8], windows: &[u32]) -> Advanced
     ensures { result ≡ fetch_of engine memory.now (windows_of windows.now) }
 {
     let current = engine.pointers.current;
-    let verdict = judge(memory.len(), windows, current, BYTES as u32);
-    match verdict {
-        Verdict::Okay => accept(engine, load_descriptor(memory, current as usize)),
-        Verdict::Slave => halt(engine, ErrorBit::SgSlvErr),
-        Verdict::Decode => halt(engine, ErrorBit::SgDecErr),
+    if let Some(bit) = chain_error(memory.len(), windows, current, BYTES as u32) {
+        return halt(engine, bit);
     }
+    accept(engine, load_descriptor(memory, current as usize))
 }

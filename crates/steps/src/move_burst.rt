@@ -4,19 +4,43 @@ ghost use Rattle.kit.specs.Limits.{most_bytes, most_memory};
 ghost use Rattle.kit.specs.Settings.{legal_of};
 ghost use Rattle.memory.specs.Windows.{windows_of};
 ghost use Rattle.state.specs.State.{transfer_fits};
-ghost use Rattle.steps.specs.Step.{advance_seen, piece_bytes, bytes_by, told_by, fault_at, continue_or_finish_of, after_burst_of, after_fault_of, move_burst_of};
+ghost use Rattle.steps.specs.Step.{advance_seen, piece_bytes, bytes_by, told_by, fault_by, continue_or_finish_of, after_burst_of, after_fault_of, move_burst_of};
 
 use crate::event::{Advanced, Event};
 use crate::halt::stop_on_error;
-use cut::{Burst, burst_bytes, least, span};
+use cut::{Burst, burst_bytes, span};
 use kit::settings::Settings;
 use memory::verdict::Verdict;
 use places::fault::fault_place;
 use sides::carry::carry;
-use state::engine::{Engine, ErrorBit, Outcome, Phase, Transfer, bit_number};
+use sides::side::Side;
+use state::engine::{Control, Engine, ErrorBit, Outcome, Phase, Transfer, bit_number};
+use state::moving::Moving;
 
 // A fixed destination takes pieces of at most so many beats.
-const MOST_FIXED_BEATS: u64 = 16;
+const MOST_FIXED_BEATS: u32 = 16;
+
+// Where a transfer is read: Key Hole Read fixes it at its word.
+pub fn source_side(control: Control, transfer: Transfer) -> Side
+    ensures start { result.start ≡ transfer.source }
+    ensures fixed { result.fixed ≡ control.keyholeread }
+{
+    Side {
+        start: transfer.source as usize,
+        fixed: control.keyholeread,
+    }
+}
+
+// Where it is written: Key Hole Write does.
+pub fn destination_side(control: Control, transfer: Transfer) -> Side
+    ensures start { result.start ≡ transfer.destination }
+    ensures fixed { result.fixed ≡ control.keyholewrite }
+{
+    Side {
+        start: transfer.destination as usize,
+        fixed: control.keyholewrite,
+    }
+}
 
 // The state after `moved` bytes of the transfer. After the last burst chain mode goes to update, and simple mode ends in
 // this same step.
@@ -71,16 +95,16 @@ fn after_fault(engine: Engine, place: u32, outcome: Outcome, bit: ErrorBit) -> A
 fn piece_bytes(settings: Settings, left: u32) -> u32
     ensures { result ≡ min (piece_bytes settings) left }
 {
-    let beats = least(settings.beats as u64, MOST_FIXED_BEATS) as u32;
-    least(span(settings.width, beats), left as u64) as u32
+    let beats = settings.beats.min(MOST_FIXED_BEATS);
+    span(settings.width, beats).min(left as u64) as u32
 }
 
 // The bytes of the next burst, to a destination that is fixed or not.
-pub fn next_bytes(settings: Settings, writes: bool, transfer: Transfer) -> u32
-    requires settings_value { legal_of settings ≡ true }
-    requires transfer_value { transfer_fits transfer ≡ true }
-    ensures { result ≡ bytes_by settings writes transfer }
+pub fn next_bytes(moving: Moving, writes: bool) -> u32
+    ensures { result ≡ bytes_by moving.settings writes moving.transfer }
 {
+    let settings = moving.settings;
+    let transfer = moving.transfer;
     let left = transfer.total - transfer.moved;
     if writes {
         return piece_bytes(settings, left);
@@ -89,7 +113,7 @@ pub fn next_bytes(settings: Settings, writes: bool, transfer: Transfer) -> u32
     burst_bytes(settings.width, settings.beats, to as u64, left)
 }
 
-// The place that its event tells, if memory takes it.
+// The place that its event tells, if memory takes it. A `Moving` in place of the transfer would ask for legal settings too.
 pub fn told_at(writes: bool, transfer: Transfer) -> u32
     requires { transfer_fits transfer ≡ true }
     ensures { result ≡ told_by writes transfer }
@@ -102,28 +126,24 @@ pub fn told_at(writes: bool, transfer: Transfer) -> u32
 
 // The byte at which memory refused it, which the event of a fault tells. It is looked for only after such a verdict.
 fn fault_at(
-    engine: Engine,
-    transfer: Transfer,
+    control: Control,
+    moving: Moving,
     size: usize,
     windows: &[u32],
     bytes: u32,
     verdict: Verdict,
 ) -> u32
-    requires settings_value { legal_of engine.settings ≡ true }
-    requires transfer_value { transfer_fits transfer ≡ true }
-    requires size_le_most_memory { size ≤ most_memory }
-    ensures { result ≡ fault_at engine transfer size (windows_of windows.now) bytes verdict }
+    requires { size ≤ most_memory }
+    ensures { result ≡ fault_by moving.settings control.keyholeread control.keyholewrite moving.transfer size (windows_of windows.now) bytes verdict }
 {
     fault_place(
         size,
         windows,
         verdict,
-        engine.settings.width,
-        engine.control.keyholeread,
-        engine.control.keyholewrite,
-        transfer.source,
-        transfer.destination,
-        transfer.moved,
+        moving.settings.width,
+        source_side(control, moving.transfer),
+        destination_side(control, moving.transfer),
+        moving.transfer.moved,
         bytes,
     )
 }
@@ -140,31 +160,28 @@ pub fn move_burst(
     requires memory_len_bound { length memory.old ≤ most_memory }
     ensures { advance_seen result memory.new ≡ move_burst_of engine transfer memory.old (windows_of windows.now) }
 {
-    let reads = engine.control.keyholeread;
-    let writes = engine.control.keyholewrite;
-    let bytes = next_bytes(engine.settings, writes, transfer);
+    let control = engine.control;
+    let moving = Moving {
+        settings: engine.settings,
+        transfer,
+    };
+    let bytes = next_bytes(moving, control.keyholewrite);
     let size = memory.len();
-    let told = told_at(writes, transfer);
+    let told = told_at(control.keyholewrite, transfer);
     let verdict = carry(
         memory,
         windows,
         engine.settings.width,
-        reads,
-        writes,
-        transfer.source,
-        transfer.destination,
+        source_side(control, transfer),
+        destination_side(control, transfer),
         transfer.moved,
         bytes,
     );
-    match verdict {
-        Verdict::Okay => after_burst(engine, transfer, told, bytes),
-        Verdict::Slave => {
-            let place = fault_at(engine, transfer, size, windows, bytes, Verdict::Slave);
-            after_fault(engine, place, Outcome::Slave, ErrorBit::DmaSlvErr)
-        }
-        Verdict::Decode => {
-            let place = fault_at(engine, transfer, size, windows, bytes, Verdict::Decode);
-            after_fault(engine, place, Outcome::Decode, ErrorBit::DmaDecErr)
-        }
-    }
+    let (outcome, bit) = match verdict {
+        Verdict::Okay => return after_burst(engine, transfer, told, bytes),
+        Verdict::Slave => (Outcome::Slave, ErrorBit::DmaSlvErr),
+        Verdict::Decode => (Outcome::Decode, ErrorBit::DmaDecErr),
+    };
+    let place = fault_at(control, moving, size, windows, bytes, verdict);
+    after_fault(engine, place, outcome, bit)
 }

@@ -1,4 +1,4 @@
-// What is told of an event: its word by number, and two numbers.
+// What is told of an event: its word by number, as C is handed it, and two numbers.
 ghost use Rattle.std.specs.Prelude.{◌≡◌};
 ghost use Rattle.steps.specs.Report.{report_of};
 

@@ -5,9 +5,8 @@ ghost use Rattle.state.specs.Bits.{alignment};
 ghost use Rattle.steps.specs.Step.{advance_seen, status_word_of, complete_descriptor_of, retire_of, after_update_of, update_of};
 
 use crate::event::{Advanced, Event};
-use crate::halt::{halt, stop_on_error};
+use crate::halt::{chain_error, halt, stop_on_error};
 use kit::word::store;
-use memory::verdict::{Verdict, judge};
 use state::descriptor::STATUS;
 use state::engine::{Engine, ErrorBit, Outcome, Phase};
 
@@ -66,14 +65,10 @@ pub fn update(engine: Engine, outcome: Outcome, memory: &mut [u8], windows: &[u3
     ensures { advance_seen result memory.new ≡ update_of engine outcome memory.old (windows_of windows.now) }
 {
     let at = engine.pointers.current + STATUS as u32;
-    let verdict = judge(memory.len(), windows, at, 4);
-    match verdict {
-        Verdict::Okay => {
-            let word = status_word(outcome);
-            store(memory, at as usize, word);
-            after_update(engine, outcome, word)
-        }
-        Verdict::Slave => halt(engine, ErrorBit::SgSlvErr),
-        Verdict::Decode => halt(engine, ErrorBit::SgDecErr),
+    if let Some(bit) = chain_error(memory.len(), windows, at, 4) {
+        return halt(engine, bit);
     }
+    let word = status_word(outcome);
+    store(memory, at as usize, word);
+    after_update(engine, outcome, word)
 }

@@ -5,13 +5,15 @@ use mathlib.Core.List.{List}
 use Prim.Native.Nat.{ℕ, ◌+◌}
 use lib.Dec.{eqb, ltb}
 use lib.ListN.{get_or}
-use borrow.Author.Tests.{eq-eqb, ne_eqb}
 use Rattle.kit.specs.Choice.{when}
 use Rattle.kit.specs.Word.{word_at}
-use Rattle.kit.proofs.Choice.{yes, no}
+use Rattle.kit.specs.declared.answer.Refusal.{Refusal}
+use Rattle.kit.specs.Answer.{number_of}
+use Rattle.kit.proofs.Numbers.{refusal-some}
+use Rattle.kit.proofs.Choice.{no}
 use Rattle.monitor.specs.declared.clock.Clock.{Clock}
 use Rattle.monitor.specs.declared.monitor.Monitor.{Monitor}
-use Rattle.monitor.specs.Monitor.{Seen, lowest_of, bus_clock_of}
+use Rattle.monitor.specs.Monitor.{Seen, refused, lowest_of, bus_clock_of}
 use Rattle.record.specs.Mark.{letters}
 use Rattle.record.specs.Reading.{clock_at}
 use Rattle.session.specs.declared.Mode.TheVariants.{Records}
@@ -28,12 +30,12 @@ abbrev pub clocking : Session → Monitor → ℕ → Session
 clocking s m before = record { engine = s.engine; monitor = m; sequence = before; windows = s.windows; chosen = s.chosen; mode = s.mode }
 
 -- a clock that was taken
-abbrev pub clocked_of : Session → ℕ → Seen → Effect
-clocked_of s sequence v = record { session = clocking s v.monitor sequence; line = clock_line_of sequence v.count (lowest_of v.monitor) }
+abbrev pub clocked_of : Session → ℕ → ℕ → Monitor → Effect
+clocked_of s sequence count m = record { session = clocking s m sequence; line = clock_line_of sequence count (lowest_of m) }
 
 -- either way
 abbrev result_of : Session → ℕ → ℕ → Seen → Effect
-result_of s sequence position v = when (eqb v.number 0) (clocked_of s sequence v) (bad_of s v.number position)
+result_of s sequence position v = when (eqb v.number 0) (clocked_of s sequence v.count v.monitor) (bad_of s v.number position)
 
 by-judged : (s : Session) (sequence bits : ℕ) (clock : Clock) (position : ℕ)
     → clock_of s sequence bits clock position ≡ result_of s sequence position (judged_of s.monitor s.engine.settings bits clock)
@@ -44,19 +46,21 @@ by-judged s sequence bits clock position = by (ltb 7 bits)
     by true = refl
     by false = refl
 
-module _ (s : Session) (sequence bits : ℕ) (clock : Clock) (position : ℕ) (input : List ℕ) (at : ℕ) {v : Seen} (j : v ≡ judged_of s.monitor s.engine.settings bits clock) where
-  by-seen : clock_of s sequence bits clock position ≡ result_of s sequence position v
-  by-seen = by-judged s sequence bits clock position ∙ ap (result_of s sequence position) (sym j)
+module _ (s : Session) (sequence bits : ℕ) (clock : Clock) (position : ℕ) (input : List ℕ) (at : ℕ) where
+  by-seen : {v : Seen} → v ≡ judged_of s.monitor s.engine.settings bits clock → clock_of s sequence bits clock position ≡ result_of s sequence position v
+  by-seen j = by-judged s sequence bits clock position ∙ ap (result_of s sequence position) (sym j)
 
   -- refused
-  pub as-refused : (v.number ≡ 0 → ⊥) → (lent : Lent) → after (bad_of s v.number position) lent ≡ apply_of s sequence position input at lent (clock_body bits clock)
+  pub as-refused : (refusal : Refusal) → refused (number_of refusal) s.monitor ≡ judged_of s.monitor s.engine.settings bits clock
+      → (lent : Lent) → after (bad_of s (number_of refusal) position) lent ≡ apply_of s sequence position input at lent (clock_body bits clock)
   unfolding apply_of
-  as-refused n lent = ap (λ (e : Effect). after e lent) (no _ (ne_eqb v.number 0 n) refl ∙ sym by-seen)
+  as-refused refusal j lent = ap (λ (e : Effect). after e lent) (no _ (refusal-some refusal) refl ∙ sym (by-seen j))
 
   -- taken
-  pub as-taken : v.number ≡ 0 → (lent : Lent) → after (clocked_of s sequence v) lent ≡ apply_of s sequence position input at lent (clock_body bits clock)
+  pub as-taken : {count : ℕ} {m : Monitor} → record { number = 0; count = count; monitor = m } ≡ judged_of s.monitor s.engine.settings bits clock
+      → (lent : Lent) → after (clocked_of s sequence count m) lent ≡ apply_of s sequence position input at lent (clock_body bits clock)
   unfolding apply_of
-  as-taken n lent = ap (λ (e : Effect). after e lent) (yes _ (eq-eqb v.number 0 n) refl ∙ sym by-seen)
+  as-taken j lent = ap (λ (e : Effect). after e lent) (sym (by-seen j))
 
 -- the AR record that follows, as it was read
 pub clock-order : (base : ℕ) (input : List ℕ) (at : ℕ) (ended : Bool) (put room : ℕ) (s : Session) → s.mode ≡ Records

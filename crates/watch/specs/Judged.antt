@@ -1,7 +1,7 @@
 -- RULES.md, "Trace and listing": an AR record's clock, judged with its bits.
 use Rattle.std.specs.Prelude.{ℕ, ltb}
 use Rattle.kit.specs.Choice.{when}
-use Rattle.kit.specs.declared.answer.Answer.TheVariants as answers
+use Rattle.kit.specs.declared.answer.Refusal.TheVariants as answers
 use Rattle.kit.specs.Answer.{number_of}
 use Rattle.kit.specs.declared.settings.Settings.{Settings}
 use Rattle.monitor.specs.declared.clock.Clock.{Clock}

@@ -20,8 +20,8 @@ use Rattle.steps.proofs.Keeps.{advance-keeps}
 use Rattle.record.specs.declared.reading.Body.{Body}
 use Rattle.record.specs.declared.reading.Body.TheVariants.{Settings, Memory, Window, Write, Read, Steps, Astray, Clock}
 use Rattle.record.specs.declared.reading.Record.{Record}
-use Rattle.record.specs.declared.reading.Reading.{Reading}
-use Rattle.record.specs.declared.reading.Reading.TheVariants.{Found, Refused}
+use Rattle.record.specs.Reading.{Reading}
+use Rattle.std.specs.Prelude.{Some, None}
 use Rattle.record.specs.Reading.{reading_of}
 use Rattle.record.specs.Names.{names_of}
 use Rattle.record.proofs.Naming.{named-once}
@@ -100,7 +100,7 @@ choice-keeps input r two =
 module _ (base : ℕ) (input : List ℕ) (sequence : ℕ) (body : Body) where
   -- the record at y's place is read and in sequence
   record Ready (next : ℕ) (y : Replay) : Type 0 where
-    read : reading_of input y.at (eqb (base + y.at) 0) (two_of y.session.chosen) ≡ Found (record { sequence = sequence; body = body }) next
+    read : reading_of input y.at (eqb (base + y.at) 0) (two_of y.session.chosen) ≡ Some ((record { sequence = sequence; body = body }), next)
     rises : stale_of y.session.sequence sequence body ≡ false
 
   -- what it does
@@ -114,7 +114,7 @@ module _ (base : ℕ) (input : List ℕ) (sequence : ℕ) (body : Body) where
   module _ {n : ℕ} (r : Replay) (q : NextFor n base input r sequence body) where
     ready-handed : Ready q.next (handed input r)
     ready-handed =
-        let read : (t : Bool) → t ≡ true → reading_of input r.at (eqb (base + r.at) 0) t ≡ Found (record { sequence = sequence; body = body }) q.next =
+        let read : (t : Bool) → t ≡ true → reading_of input r.at (eqb (base + r.at) 0) t ≡ Some ((record { sequence = sequence; body = body }), q.next) =
         λ t e. ap (reading_of input r.at (eqb (base + r.at) 0)) e ∙ q.read in
         cases (Ready q.next) (called_of r.session.chosen input r.at)
         (λ _. record { read = read _ (turned_two r.session.chosen q.two); rises = q.rises })
@@ -183,15 +183,15 @@ module _ (base : ℕ) (input : List ℕ) (y : Replay) where
       (eqb (bus_clock_of y.session.monitor y.session.engine.settings.width y.session.engine.settings.beats clock).number 0)
       (λ _. record { first = refl; second = refl }) (λ _. record { first = refl; second = refl }))
 
-  record-keeps : (v : Reading) → ((x : Record) (next : ℕ) → v ≡ Found x next → stale_of y.session.sequence x.sequence x.body ≡ false → changes_engine x.body ≡ false)
+  record-keeps : (v : Reading) → ((x : Record) (next : ℕ) → v ≡ Some (x, next) → stale_of y.session.sequence x.sequence x.body ≡ false → changes_engine x.body ≡ false)
       → Keeps y (record_on y (record_by y.session (base + y.at) input y.at y.lent v))
-  record-keeps Refused h = record { first = refl; second = refl }
-  record-keeps (Found x next) h =
+  record-keeps None h = record { first = refl; second = refl }
+  record-keeps (Some (x, next)) h =
       cases (λ (t : Turn). Keeps y (record_on y t)) (stale_of y.session.sequence x.sequence x.body) (λ _. record { first = refl; second = refl })
       (λ e. apply-keeps x.sequence next x.body (h x next refl e))
 
 others_keep : (base : ℕ) (input : List ℕ) (r : Replay) → r.session.mode ≡ modes.Records → two_of r.session.chosen ≡ true
-    → ((x : Record) (next : ℕ) → reading_of input r.at (eqb (base + r.at) 0) true ≡ Found x next
+    → ((x : Record) (next : ℕ) → reading_of input r.at (eqb (base + r.at) 0) true ≡ Some (x, next)
     → stale_of r.session.sequence x.sequence x.body ≡ false → changes_engine x.body ≡ false)
     → Keeps r (turn_on base input r)
 unfolding turn_on
@@ -202,7 +202,7 @@ others_keep base input r mode two h =
     (λ _. record-keeps base input (swapped r) (reading_of input r.at (eqb (base + r.at) 0) (two_of (turned_of r.session.chosen))) (seen (two_of (turned_of r.session.chosen)) (turned_two r.session.chosen two)))
     (λ _. record-keeps base input r (reading_of input r.at (eqb (base + r.at) 0) (two_of r.session.chosen)) (seen (two_of r.session.chosen) two))))
   where
-    seen : (t : Bool) → t ≡ true → (x : Record) (next : ℕ) → reading_of input r.at (eqb (base + r.at) 0) t ≡ Found x next
+    seen : (t : Bool) → t ≡ true → (x : Record) (next : ℕ) → reading_of input r.at (eqb (base + r.at) 0) t ≡ Some (x, next)
         → stale_of r.session.sequence x.sequence x.body ≡ false → changes_engine x.body ≡ false
     seen t e x next f = h x next (sym (ap (reading_of input r.at (eqb (base + r.at) 0)) e) ∙ f)
 
@@ -235,7 +235,7 @@ set-up base input sequence width beats next y legal =
     cases (λ (e : Effect). Has (record_on y (turn_as (after e y.lent) next)) First (fresh_of x) (with_settings x y.lent.other)) (legal_settings width beats)
     (λ _. record { chosen = refl; engine = refl; other = refl }) (λ e. absurd (never (sym e ∙ legal)))
 
-starts : (t : List ℕ) (sequence width beats next : ℕ) → reading_of t 0 true false ≡ Found (record { sequence = sequence; body = Settings true width beats }) next
+starts : (t : List ℕ) (sequence width beats next : ℕ) → reading_of t 0 true false ≡ Some ((record { sequence = sequence; body = Settings true width beats }), next)
     → legal_settings width beats ≡ true
     → let fresh = fresh_of (record { width = width; beats = beats }) in Has (turn_on 0 t (turn_on 0 t at_start)) First fresh fresh
 unfolding turn_on

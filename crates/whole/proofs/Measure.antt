@@ -14,8 +14,8 @@ use Rattle.kit.proofs.Choice.{cases, never}
 use Rattle.monitor.specs.Monitor.{bus_clock_of}
 use Rattle.record.specs.declared.reading.Body.{Body}
 use Rattle.record.specs.declared.reading.Body.TheVariants.{Settings, Memory, Window, Write, Read, Steps, Astray, Clock}
-use Rattle.record.specs.declared.reading.Reading.{Reading}
-use Rattle.record.specs.declared.reading.Reading.TheVariants.{Found, Refused}
+use Rattle.record.specs.Reading.{Reading}
+use Rattle.std.specs.Prelude.{Some, None}
 use Rattle.record.specs.Reading.{reading_of}
 use Rattle.session.specs.declared.Mode.{Mode}
 use Rattle.session.specs.declared.Mode.TheVariants as modes
@@ -77,8 +77,8 @@ module _ (s : Session) (position : ℕ) (input : List ℕ) (at : ℕ) (lent : Le
 
   record-less : 0 < length input - at → (v : Reading) → reading_of input at (eqb position 0) (two_of s.chosen) ≡ v
       → (let t = record_by s position input at lent v in measure (length input - t.at) t.effect.session.mode) < most_turns * (length input - at)
-  record-less some Refused e = omega arith
-  record-less some (Found r next) e =
+  record-less some None e = omega arith
+  record-less some (Some (r, next)) e =
       let i = inside input at (eqb position 0) (two_of s.chosen) r next e in
       cases (λ (t : Turn). measure (length input - t.at) t.effect.session.mode < most_turns * (length input - at)) (stale_of s.sequence r.sequence r.body) (λ _. omega arith)
       (λ _. apply-less next i.0 i.1 r.sequence r.body)

@@ -10,13 +10,13 @@ use lib.Seq.{sets, drop-append-add, drop-append-le, take-append-le}
 use lib.Dec.{eqb, leb, ltb}
 use borrow.Author.Tests.{leb-true}
 use Rattle.kit.specs.Choice.{when}
-use Rattle.kit.specs.declared.answer.Answer.TheVariants as answers
+use Rattle.kit.specs.declared.answer.Refusal.TheVariants as answers
 use Rattle.kit.specs.Answer.{number_of}
 use Rattle.kit.proofs.Choice.{never}
 use Rattle.record.specs.declared.reading.Body.{Body}
 use Rattle.record.specs.declared.reading.Body.TheVariants.{Settings, Memory, Window, Write, Read, Steps, Astray, Clock}
-use Rattle.record.specs.declared.reading.Reading.{Reading}
-use Rattle.record.specs.declared.reading.Reading.TheVariants.{Found, Refused}
+use Rattle.record.specs.Reading.{Reading}
+use Rattle.std.specs.Prelude.{Some, None}
 use Rattle.record.specs.Reading.{reading_of}
 use Rattle.record.specs.Claims.{longest, shifted}
 use Rattle.record.specs.Starts.{settings_at}
@@ -48,8 +48,8 @@ abbrev pub later : ℕ → Turn → Turn
 later d t = record { effect = t.effect; at = d + t.at; lent = t.lent }
 
 twice-shifted : (d e : ℕ) (v : Reading) → shifted (d + e) v ≡ shifted d (shifted e v)
-twice-shifted d e (Found r n) = ap (Found r) (add_assoc d e n)
-twice-shifted d e Refused = refl
+twice-shifted d e (Some (r, n)) = ap (λ (x : ℕ). Some (r, x)) (add_assoc d e n)
+twice-shifted d e None = refl
 
 module _ (before part after' : List ℕ) where
   drop-whole : (k : ℕ) → k ≤ length part → drop (length before + k) (before ++ (part ++ after')) ≡ drop k part ++ after'
@@ -143,8 +143,8 @@ module _ (before part after' : List ℕ) where
     record-part : (at : ℕ) (v : Reading) → reading_of part at (eqb position 0) (two_of s.chosen) ≡ v
         → record_by s position (before ++ (part ++ after')) (length before + at) lent (shifted (length before) v)
         ≡ later (length before) (record_by s position part at lent v)
-    record-part at Refused e = refl
-    record-part at (Found r n) e = go (stale_of s.sequence r.sequence r.body)
+    record-part at None e = refl
+    record-part at (Some (r, n)) e = go (stale_of s.sequence r.sequence r.body)
       where
         refused : After
         refused = after (bad_of s (number_of answers.Sequence) position) lent

@@ -25,8 +25,8 @@ use Rattle.steps.proofs.Stored.{take-bytes, drop-bytes, sets-bytes}
 use Rattle.monitor.specs.Monitor.{bus_clock_of}
 use Rattle.record.specs.declared.reading.Body.{Body}
 use Rattle.record.specs.declared.reading.Body.TheVariants.{Settings, Memory, Window, Write, Read, Steps, Astray, Clock}
-use Rattle.record.specs.declared.reading.Reading.{Reading}
-use Rattle.record.specs.declared.reading.Reading.TheVariants.{Found, Refused}
+use Rattle.record.specs.Reading.{Reading}
+use Rattle.std.specs.Prelude.{Some, None}
 use Rattle.record.specs.Reading.{reading_of}
 use Rattle.record.specs.Claims.{Bytes, Within}
 use Rattle.record.proofs.Claims.{claims}
@@ -173,8 +173,8 @@ module _ (s : Session) (position : ℕ) (input : List ℕ) (at : ℕ) (lent : Le
 
   record-sound : (v : Reading) → reading_of input at (eqb position 0) (two_of s.chosen) ≡ v
       → SoundAs (record_by s position input at lent v).effect.session (record_by s position input at lent v).lent
-  record-sound Refused e = h
-  record-sound (Found r next) e =
+  record-sound None e = h
+  record-sound (Some (r, next)) e =
       cases (λ (t : Turn). SoundAs t.effect.session t.lent) (stale_of s.sequence r.sequence r.body) (λ _. h)
       (λ _. apply-sound r.sequence r.body (claims.ranges input at (eqb position 0) (two_of s.chosen) r next held e).1)
 
@@ -195,8 +195,8 @@ apply-other s n position input at lent Astray = refl
 apply-other s n position input at lent (Clock bits clock) = refl
 
 record-other : (s : Session) (position : ℕ) (input : List ℕ) (at : ℕ) (lent : Lent) (v : Reading) → (record_by s position input at lent v).lent.other ≡ lent.other
-record-other s position input at lent Refused = refl
-record-other s position input at lent (Found r next) =
+record-other s position input at lent None = refl
+record-other s position input at lent (Some (r, next)) =
     cases (λ (t : Turn). t.lent.other ≡ lent.other) (stale_of s.sequence r.sequence r.body) (λ _. refl)
     (λ _. apply-other s r.sequence position input at lent r.body)
 

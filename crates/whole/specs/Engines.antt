@@ -7,7 +7,7 @@ use Rattle.registers.specs.Write.{write_of}
 use Rattle.record.specs.declared.reading.Body.{Body}
 use Rattle.record.specs.declared.reading.Body.TheVariants.{Settings, Memory, Window, Write, Read, Steps, Astray, Clock}
 use Rattle.record.specs.declared.reading.Record.{Record}
-use Rattle.record.specs.declared.reading.Reading.TheVariants.{Found}
+use Rattle.std.specs.Prelude.{Some}
 use Rattle.record.specs.Reading.{reading_of}
 use Rattle.record.specs.Names.{names_of}
 use Rattle.session.specs.declared.chosen.Chosen.{Chosen}
@@ -46,7 +46,7 @@ pub record NextFor (n base : ℕ) (input : List ℕ) (r : Replay) (sequence : �
   pub two : two_of r.session.chosen ≡ true
   pub names : names_of input r.at n ≡ true
   pub next : ℕ
-  pub read : reading_of input r.at (eqb (base + r.at) 0) true ≡ Found (record { sequence = sequence; body = body }) next
+  pub read : reading_of input r.at (eqb (base + r.at) 0) true ≡ Some ((record { sequence = sequence; body = body }), next)
   pub rises : stale_of r.session.sequence sequence body ≡ false
 
 -- what a record says changes an engine: settings and a WR; the steps of an ST come after it
@@ -67,7 +67,7 @@ pub record Keeps (r t : Replay) : Type 0 where
 
 pub record Engines : Type 0 where
   -- C2, after what comes before the first record: two fresh engines with its settings
-  pub start : (t : List ℕ) (sequence width beats next : ℕ) → reading_of t 0 true false ≡ Found (record { sequence = sequence; body = Settings true width beats }) next
+  pub start : (t : List ℕ) (sequence width beats next : ℕ) → reading_of t 0 true false ≡ Some ((record { sequence = sequence; body = Settings true width beats }), next)
       → legal_settings width beats ≡ true
       → let r = turn_on 0 t (turn_on 0 t at_start) in
       let fresh = fresh_of (record { width = width; beats = beats }) in (two_of r.session.chosen ≡ true) × (first_of r ≡ fresh) × (second_of r ≡ fresh)
@@ -78,7 +78,7 @@ pub record Engines : Type 0 where
       → let t = turn_on base input r in (first_of t ≡ first_of r) × (second_of t ≡ (write_of (second_of r) offset value).engine)
   -- every other record leaves both as they were, and so does one that is refused, whatever it is
   pub others : (base : ℕ) (input : List ℕ) (r : Replay) → r.session.mode ≡ modes.Records → two_of r.session.chosen ≡ true
-      → ((x : Record) (next : ℕ) → reading_of input r.at (eqb (base + r.at) 0) true ≡ Found x next
+      → ((x : Record) (next : ℕ) → reading_of input r.at (eqb (base + r.at) 0) true ≡ Some (x, next)
       → stale_of r.session.sequence x.sequence x.body ≡ false → changes_engine x.body ≡ false)
       → Keeps r (turn_on base input r)
   -- an ST leaves both as they were until its steps are taken, and these are its engine's

@@ -5,11 +5,10 @@ use mathlib.Core.Logic.{◌⊎◌, inl, inr}
 use mathlib.Core.List.{List, [], ◌∷◌}
 use Prim.Native.Nat.{ℕ, ◌+◌, ◌≤◌, ◌<◌, ◌^◌}
 use native.Mathlib.Omega.{arith}
-use native.Mathlib.Numerals.{add-one}
 use lib.Dec.{eqb, ltb}
-use lib.ListN.{length, drop, get_or, drop_of_length-le}
-use lib.Seq.{drop-cons}
 use borrow.Author.Tests.{ne_eqb, lt-ltb, le-ltb, ltb-true, ltb-false, eqb-true, eqb-false}
+use Rattle.std.specs.Prelude.{◌||◌}
+use Rattle.std.specs.List.{list_any}
 use Rattle.kit.specs.Choice.{when, either}
 use Rattle.kit.proofs.Choice.{yes, no, decide}
 use Rattle.memory.specs.declared.window.Window.{Window}
@@ -19,24 +18,16 @@ use Rattle.memory.specs.Verdict.{group_of}
 use Rattle.memory.proofs.Groups.{group-none, group-decode, group-slave, group-okay}
 use Rattle.windows.specs.Lookup.{touched_of, past_of, decide_of}
 
--- ---- the windows from the i-th on
+-- ---- the windows
 
-module _ (ws : List Window) (a e i : ℕ) where
-  pub touched_of-step : (d : Window) → i < length ws → touched_of (drop i ws) a e ≡ either (touches_of (get_or ws i d) a e) (touched_of (drop (i + 1) ws) a e)
-  unfolding touched_of
-  touched_of-step d h =
-      ap (λ (l : List Window). touched_of l a e) (drop-cons ws i d h)
-      ∙ ap (λ (n : ℕ). either (touches_of (get_or ws i d) a e) (touched_of (drop n ws) a e)) (sym (add-one i))
-
-  pub touched_of-here : (d : Window) → i < length ws → touches_of (get_or ws i d) a e ≡ true → true ≡ touched_of (drop i ws) a e
-  touched_of-here d h t = sym (touched_of-step d h ∙ ap (λ (x : Bool). either x (touched_of (drop (i + 1) ws) a e)) t)
-
-  pub touched_of-on : (d : Window) → i < length ws → touches_of (get_or ws i d) a e ≡ false → touched_of (drop (i + 1) ws) a e ≡ touched_of (drop i ws) a e
-  touched_of-on d h t = sym (touched_of-step d h ∙ ap (λ (x : Bool). either x (touched_of (drop (i + 1) ws) a e)) t)
-
-  pub touched_of-end : length ws ≤ i → false ≡ touched_of (drop i ws) a e
-  unfolding touched_of
-  touched_of-end h = ap (λ (l : List Window). touched_of l a e) (sym (drop_of_length-le ws h))
+pub touched_of-any : (ws : List Window) (a e : ℕ) → list_any (λ (w : Window). touches_of w a e) ws ≡ touched_of ws a e
+unfolding touched_of
+touched_of-any [] a e = refl
+touched_of-any (w ∷ ws) a e = go (touches_of w a e) (touched_of-any ws a e)
+  where
+    go : (t : Bool) {x y : Bool} → x ≡ y → t || x ≡ either t y
+    go true e = refl
+    go false e = e
 
 -- ---- the verdict
 

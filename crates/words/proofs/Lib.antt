@@ -1,3 +1,4 @@
 pub mod Same
+pub mod Written
 pub mod Engines
 pub mod Claims

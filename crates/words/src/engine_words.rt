@@ -1,17 +1,11 @@
 // include/belikumba.h, "Engine": an engine as the numbers that its caller keeps.
 ghost use Rattle.std.specs.Prelude.{◌≡◌};
-ghost use Rattle.words.specs.EngineWords.{truth as truth_of, phase_number_of, moving_of, words_of, stepped_words_of, error_bit_from, phase_from, settings_from, control_from, status_from, pointers_from, simple_from, transfer_from, engine_from};
+ghost use Rattle.words.specs.EngineWords.{phase_number_of, moving_of, words_of, stepped_words_of, error_bit_from, phase_from, settings_from, control_from, status_from, pointers_from, simple_from, transfer_from, engine_from};
 
 use kit::settings::Settings;
 use state::engine::{
     Control, Engine, ErrorBit, Outcome, Phase, Pointers, Simple, Status, Transfer, bit_number,
 };
-
-fn truth(set: bool) -> u32
-    ensures { result ≡ truth_of set }
-{
-    if set { 1 } else { 0 }
-}
 
 // An update by the bit of the status word that it is to write.
 fn phase_number(phase: Phase) -> u32
@@ -21,12 +15,10 @@ fn phase_number(phase: Phase) -> u32
         Phase::Idle => 0,
         Phase::Fetch => 1,
         Phase::Move(_) => 2,
-        Phase::Update(outcome) => match outcome {
-            Outcome::Internal => 28,
-            Outcome::Slave => 29,
-            Outcome::Decode => 30,
-            Outcome::Complete => 31,
-        },
+        Phase::Update(Outcome::Internal) => 28,
+        Phase::Update(Outcome::Slave) => 29,
+        Phase::Update(Outcome::Decode) => 30,
+        Phase::Update(Outcome::Complete) => 31,
     }
 }
 
@@ -34,87 +26,54 @@ fn phase_number(phase: Phase) -> u32
 fn moving(phase: Phase) -> Transfer
     ensures { result ≡ moving_of phase }
 {
-    let none = Transfer {
-        source: 0,
-        destination: 0,
-        total: 0,
-        moved: 0,
-    };
     match phase {
-        Phase::Idle => none,
-        Phase::Fetch => none,
         Phase::Move(transfer) => transfer,
-        Phase::Update(_) => none,
+        _ => Transfer {
+            source: 0,
+            destination: 0,
+            total: 0,
+            moved: 0,
+        },
     }
 }
 
 pub fn store(engine: Engine, words: &mut [u32; 22])
     ensures { words.new ≡ words_of engine }
 {
-    let status = engine.status;
-    let fault = status.fault;
-    let phase = engine.phase;
-    let transfer = moving(phase);
-    *words = [
-        engine.settings.width,
-        engine.settings.beats,
-        truth(engine.control.sgmode),
-        truth(engine.control.iocen),
-        truth(engine.control.erren),
-        bit_number(fault),
-        truth(status.ioc),
-        truth(status.err),
-        engine.pointers.current,
-        engine.pointers.tail,
-        engine.pointers.next,
-        engine.pointers.heldnext,
-        engine.simple.sa,
-        engine.simple.da,
-        engine.simple.btt,
-        phase_number(phase),
-        transfer.source,
-        transfer.destination,
-        transfer.total,
-        transfer.moved,
-        truth(engine.control.keyholeread),
-        truth(engine.control.keyholewrite),
-    ];
+    words[0] = engine.settings.width;
+    words[1] = engine.settings.beats;
+    words[2] = u32::from(engine.control.sgmode);
+    words[3] = u32::from(engine.control.iocen);
+    words[4] = u32::from(engine.control.erren);
+    words[9] = engine.pointers.tail;
+    words[12] = engine.simple.sa;
+    words[13] = engine.simple.da;
+    words[14] = engine.simple.btt;
+    words[20] = u32::from(engine.control.keyholeread);
+    words[21] = u32::from(engine.control.keyholewrite);
+    store_stepped(engine, words);
 }
 
 // The engine after some steps, in place of the one that the words held: what only a register write changes stays as it stands.
 pub fn store_stepped(engine: Engine, words: &mut [u32; 22])
     ensures { words.new ≡ stepped_words_of engine words.old }
 {
-    let status = engine.status;
-    let fault = status.fault;
-    let phase = engine.phase;
-    let transfer = moving(phase);
-    *words = [
-        words[0],
-        words[1],
-        words[2],
-        words[3],
-        words[4],
-        bit_number(fault),
-        truth(status.ioc),
-        truth(status.err),
-        engine.pointers.current,
-        words[9],
-        engine.pointers.next,
-        engine.pointers.heldnext,
-        words[12],
-        words[13],
-        words[14],
-        phase_number(phase),
-        transfer.source,
-        transfer.destination,
-        transfer.total,
-        transfer.moved,
-        words[20],
-        words[21],
-    ];
+    let transfer = moving(engine.phase);
+    words[5] = bit_number(engine.status.fault);
+    words[6] = u32::from(engine.status.ioc);
+    words[7] = u32::from(engine.status.err);
+    words[8] = engine.pointers.current;
+    words[10] = engine.pointers.next;
+    words[11] = engine.pointers.heldnext;
+    words[15] = phase_number(engine.phase);
+    words[16] = transfer.source;
+    words[17] = transfer.destination;
+    words[18] = transfer.total;
+    words[19] = transfer.moved;
 }
 
+// C keeps a number here. One off the list is read as none, as `phase` below reads one as idle: neither can fail.
+#[tactic(auto, unfolding(crate::specs::EngineWords::error_bit_from))]
 fn error_bit(number: u32) -> ErrorBit
     ensures { result ≡ error_bit_from number }
 {
@@ -129,6 +88,7 @@ fn error_bit(number: u32) -> ErrorBit
     }
 }
 
+#[tactic(auto, unfolding(crate::specs::EngineWords::phase_from))]
 pub fn phase(number: u32, transfer: Transfer) -> Phase
     ensures { result ≡ phase_from number transfer }
 {

@@ -1,31 +1,30 @@
 // WR records, one after the other, in a loop of their own that carries the engine.
 #![tactic(auto)]
 
-ghost use Rattle.std.specs.Prelude.{◌≡◌, ◌+◌, ◌≤◌, ◌<◌, ◌^◌, length};
-ghost use Rattle.kit.specs.Answer.{number_of};
-ghost use Rattle.digits.specs.Tables.{Tables};
+ghost use Rattle.std.specs.Prelude.{◌≡◌, ◌+◌, ◌≤◌, length};
 ghost use Rattle.record.specs.declared.reading.Body.TheVariants.{Write};
 ghost use Rattle.session.specs.Effect.{write_line_of};
 ghost use Rattle.session.specs.Pass.{InOrder, TakesOnly};
 
-use kit::answer::{Answer, number};
+use digits::tables::DigitTables;
 use kit::word::{load, load_half};
-use listing::line::{Line, put_write_line};
+use listing::line::{Line, put_quick_line};
 use listing::word::Word;
 use record::size;
 use registers::write::write;
+use session::part::Part;
 use session::ready::goes_on_writing;
 use session::{Passed, Session};
 
 // A write that is refused prints its answer and goes on.
-fn write_line(sequence: u32, offset: u32, answer: Answer) -> Line
-    ensures { result ≡ write_line_of sequence offset (number_of answer) }
+fn write_line(sequence: u32, offset: u32, answer: u32) -> Line
+    ensures { result ≡ write_line_of sequence offset answer }
 {
     Line {
         sequence,
         word: Word::Write,
         first: offset as u64,
-        second: number(answer) as u64,
+        second: answer as u64,
     }
 }
 
@@ -36,21 +35,16 @@ pub fn writes(
     sequence: u32,
     offset: u32,
     value: u32,
-    base: u64,
-    input: &[u8],
+    part: Part<'_>,
     at: usize,
     next: usize,
-    ended: bool,
-    leading: &[u32; 1000],
-    padded: &[u32; 1000],
+    tables: &DigitTables,
     out: &mut [u8],
     put: usize,
 ) -> Passed
-    requires in_order { InOrder base input.now ended session at sequence (Write offset value) next }
-    requires input_bound { base + length input.now < 2 ^ 64 }
-    requires tables { Tables leading.now padded.now }
+    requires in_order { InOrder part.base part.input.now part.ended session at sequence (Write offset value) next }
     requires put_in_bounds { put + 64 ≤ length out.old }
-    ensures { TakesOnly base input.now ended session at out.old put result out.new }
+    ensures { TakesOnly part.entry.base part.entry.input.now part.entry.ended session at out.old put result out.new }
 {
     let chosen = session.chosen;
     let mut engine = session.engine;
@@ -61,20 +55,26 @@ pub fn writes(
     let mut at = at;
     let mut next = next;
     let mut put = put;
+    // No `for`: a turn moves on by what it read and put, and may be the last. No loop shared with `clocks`: each carries a state
+    // of its own, and reads the fields of its own record.
     loop {
-        let written = write(engine, offset, value);
-        let answer = written.answer;
-        engine = written.engine;
+        let answer = match write(engine, offset, value) {
+            Ok(after) => {
+                engine = after;
+                0
+            }
+            Err(refusal) => refusal.number(),
+        };
         let line = write_line(sequence, offset, answer);
-        put = put_write_line(leading, padded, out, put, line);
+        put = put_quick_line::<0>(tables, out, put, line);
         before = sequence;
         at = next;
-        if !goes_on_writing(chosen, input, at, ended, put, out.len(), before) {
+        if !goes_on_writing(chosen, part.input, at, part.ended, put, out.len(), before) {
             break;
         }
-        sequence = load(input, at + 2);
-        offset = load_half(input, at + 6) as u32;
-        value = load(input, at + 8);
+        sequence = load(part.input, at + 2);
+        offset = load_half(part.input, at + 6) as u32;
+        value = load(part.input, at + 8);
         next = at + size::WR;
     }
     let session = Session {

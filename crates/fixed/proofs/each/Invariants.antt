@@ -5,8 +5,10 @@ use Rattle.fixed.proofs.each.Given as goal
 
 -- Bursts in a row meet their contract. Invariant: those moved so far are steps of every engine in the transfer's midst.
 abbrev pub invariant-loop-steps : goal.invariant-loop-steps
-invariant-loop-steps l =
-    (l.steps ≤ l.most) × Gliding l.settings l.reads l.writes l.transfer (windows_of l.windows) l.initial.memory l.memory l.moved l.last l.steps
+invariant-loop-steps l = record {
+  few : l.steps ≤ l.most;
+  sofar : Gliding l.settings l.control.keyholeread l.control.keyholewrite l.transfer (windows_of l.windows) l.initial.memory l.memory l.moved l.last l.steps;
+}
 
 abbrev pub decreases-loop-steps : goal.decreases-loop-steps
 decreases-loop-steps l = l.most - l.steps

@@ -1,12 +1,7 @@
 use native.Mathlib.Omega.{arith}
-use borrow.Author.Rules.{rules}
 use Rattle.replay.proofs.Passes.{pass-within}
 use Rattle.flow.proofs.Pending.{pending-length}
 use Rattle.replay.proofs.forward.Goals as goal
-
-pub pass-passed-requires : goal.pass-passed-requires
-pass-passed-requires c =
-    let pre = c.requires in record { in_bounds = pre.1; input_bound = search rules; tables = pre.3 }
 
 pub after_pass-requires : goal.after_pass-requires
 after_pass-requires c =
@@ -14,7 +9,7 @@ after_pass-requires c =
     let fits = c.requires.0 in
     let used = pass-within c.pass-passed.ensures in
     let long = pending-length a.flow a.buffer.now fits in
-    (omega (arith, used, long, fits.begins), omega (arith, used, long, fits.within, c.requires.2))
+    (omega (arith, used, long, fits.begins), omega (arith, used, long, fits.within, c.requires.1))
 
 pub returns : goal.returns
 returns c =

@@ -1,22 +1,11 @@
 use mathlib.Core.Path.{ap, subst, ◌∙◌}
 use Prim.Native.Nat.{ℕ, ◌+◌, ◌-◌}
 use mathlib.Core.List.{List}
-use native.Mathlib.Omega.{arith}
 use lib.ListN.{take, drop}
-use Rattle.convert.specs.Copying.{front, pending_of}
+use Rattle.convert.specs.Copying.{front}
 use Rattle.convert.specs.Turn.{Handed}
-use Rattle.convert.proofs.Buffer.{first-within, going-part}
+use Rattle.convert.proofs.Buffer.{going-part}
 use Rattle.convert.proofs.output.forward.Goals as goal
-
-pub slice_bounds-hand_over-count : goal.slice_bounds-hand_over-count
-slice_bounds-hand_over-count c =
-    let a = c.args in
-    omega (arith, c.first-from.ensures, first-within a.state (pending_of a.state a.buffer.now))
-
-pub slice_bounds-hand_over-start : goal.slice_bounds-hand_over-start
-slice_bounds-hand_over-start c =
-    let a = c.args in
-    omega (arith, c.first-from.ensures, first-within a.state (pending_of a.state a.buffer.now))
 
 pub returns : goal.returns
 returns c =

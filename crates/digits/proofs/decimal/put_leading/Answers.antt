@@ -4,4 +4,4 @@ use Rattle.digits.proofs.decimal.put_leading.Goals as goal
 
 pub returns : goal.returns
 returns c =
-    let a = c.args in leading-put a.value (omega arith) c.leading_entry-front.ensures a.out.now a.at c.store.ensures
+    let a = c.args in leading-put a.value (omega arith) (a.tables.now.filled.leads a.value (omega arith)) a.out.now a.at c.store.ensures

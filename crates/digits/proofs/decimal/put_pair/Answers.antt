@@ -1,10 +1,5 @@
-use native.Mathlib.Omega.{arith}
 use native.Mathlib.Numerals.{add-one}
-use lib.ListN.{length-set}
 use Rattle.digits.proofs.decimal.put_pair.Goals as goal
 
-pub bounds-out-at-2 : goal.bounds-out-at-2
-bounds-out-at-2 c = simp length-set (omega arith)
-
 pub returns : goal.returns
-returns c = rw add-one
+returns c = rw (add-one, c.to_le_bytes-bytes.ensures)

@@ -1,17 +1,12 @@
 use mathlib.Core.Path.{ap}
 use Prim.Native.Nat.{ℕ}
 use mathlib.Core.List.{List}
-use borrow.Author.Tests.{lt-ltb, le-ltb}
-use Rattle.kit.proofs.Choice.{yes, no}
+use borrow.Author.Tests.{le-ltb}
+use Rattle.kit.proofs.Choice.{no}
 use Rattle.session.specs.Effect.{lend, After, after, with_sequence}
 use Rattle.session.proofs.Parts.{copied-part}
 use Rattle.listing.specs.declared.word.Word.TheVariants as words
-use Rattle.session.specs.declared.Effect.{Effect}
 use Rattle.effects.proofs.effect.memory.Goals as goal
-
-pub returns-then-memory-end : goal.returns-then-memory-end
-returns-then-memory-end c =
-    λ w o. yes _ (lt-ltb _ _ c.if-memory-end.true) (ap (λ (e : Effect). after e (lend c.args.memory.now w o)) c.bad.ensures)
 
 pub returns : goal.returns
 returns c =

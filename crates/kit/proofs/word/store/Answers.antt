@@ -1,16 +1,13 @@
+use mathlib.Core.Path.{◌≡◌, ap, ◌∙◌}
+use Prim.Native.Nat.{◌+◌, ◌-◌}
+use borrow.Rule.Slice.PartMut.{put_mid}
 use native.Mathlib.Omega.{arith}
-use native.Mathlib.Numerals.{add-one, add-two, add-three}
-use lib.ListN.{length-set}
+use Rattle.kit.specs.Word.{bytes_of}
+use Rattle.kit.proofs.Stores.{part-sets}
 use Rattle.kit.proofs.word.store.Goals as goal
 
-pub bounds-bytes-at-2 : goal.bounds-bytes-at-2
-bounds-bytes-at-2 c = simp length-set (omega arith)
-
-pub bounds-bytes-at-3 : goal.bounds-bytes-at-3
-bounds-bytes-at-3 c = simp length-set (omega arith)
-
-pub bounds-bytes-at-4 : goal.bounds-bytes-at-4
-bounds-bytes-at-4 c = simp length-set (omega arith)
-
 pub returns : goal.returns
-returns c = rw (add-one, add-two, add-three)
+returns c =
+    let a = c.args in
+    let e : c.copy_from_slice.new.self ≡ bytes_of a.word = c.copy_from_slice.ensures.after ∙ c.to_le_bytes.ensures in
+    ap (put_mid a.at (a.at + 4 - a.at) a.bytes.now) e ∙ part-sets a.bytes.now (bytes_of a.word) a.at (a.at + 4 - a.at) (omega arith) (omega arith)

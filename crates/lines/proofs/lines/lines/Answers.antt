@@ -2,7 +2,6 @@ use mathlib.Core.Path.{◌≡◌, refl, sym, ap, ◌∙◌}
 use Prim.Native.Nat.{ℕ, ◌/◌, min}
 use native.Mathlib.Omega.{arith}
 use lib.ListN.{length, take}
-use lib.Seq.{length-take-le}
 use lib.Dec.{eqb}
 use Rattle.kit.specs.Limits.{most_windows}
 use Rattle.memory.specs.Windows.{windows_of}
@@ -10,63 +9,31 @@ use Rattle.steps.specs.Step.{AfterAdvance, advance_of}
 use Rattle.steps.proofs.Keeps.{advance-keeps}
 use Rattle.runs.specs.Run.{refusal_of}
 use Rattle.listing.proofs.Lines.{line-some, line-most}
-use Rattle.digits.proofs.Puts.{puts-length}
 use Rattle.session.specs.Stepping.{used_of}
-use Rattle.lines.proofs.Telling.{telling-begin, telling-stop, telling-goes, telling-acceptable, telling-step, telling-same, telling-full}
+use Rattle.lines.proofs.Telling.{accepts, telling-begin, telling-stop, telling-acceptable, telling-step, telling-same, telling-full}
 use Rattle.lines.proofs.lines.lines.Goals as goal
-
-pub overflow_sub-last : goal.overflow_sub-last
-overflow_sub-last c = omega (arith, c.requires.put_in_bounds)
 
 pub loop-put-init : goal.loop-put-init
 loop-put-init c =
     let a = c.args in
     let half : c.used-end.result / 2 ≡ min a.session.windows most_windows = omega (arith, c.used-end.ensures.0) in (
       telling-begin a.session a.at a.memory.now a.windows.now a.out.now a.put _ a.left a.taken c.requires.mode_value c.requires.put_in_bounds
-          (ap (λ (n : ℕ). eqb n 0) (c.number-accepted.ensures ∙ c.refusal-answer.ensures ∙ ap (refusal_of a.session.engine (length a.memory.now)) half))
+          (c.is_ok-accepted.ensures.value ∙ accepts c.refusal.result ∙ ap (λ (n : ℕ). eqb n 0) (c.refusal.ensures ∙ ap (refusal_of a.session.engine (length a.memory.now)) half))
           (λ i. (c.type_inv.memory i).fits),
       refl,
       refl,
     )
 
-pub put_stop_line-put-requires : goal.put_stop_line-put-requires
-put_stop_line-put-requires c =
-    record { tables = c.requires.tables; at_in_bounds = omega (arith, c.loop-put-test.true, c.requires.put_in_bounds, c.loop-put.invariant.0.same) }
-
-pub shape_of-memory-then-stops : goal.shape_of-memory-then-stops
-shape_of-memory-then-stops c = c.loop-put.invariant.0.memory
-
-pub shape_of-out-then-stops : goal.shape_of-out-then-stops
-shape_of-out-then-stops c = puts-length c.put_stop_line-put.ensures ∙ c.loop-put.invariant.0.same
-
 pub returns-then-stops : goal.returns-then-stops
 returns-then-stops c =
     let v = c.loop-put in
-    telling-stop v.invariant.0 (sym c.stops.ensures ∙ c.if-stops.true) c.stop_line-line.ensures c.put_stop_line-put.ensures (omega (arith, c.loop-put-test.true, c.requires.put_in_bounds))
-    (omega (arith, c.put_stop_line-put.ensures.past, line-most c.stop_line-line.result (omega (arith, c.stop_line-line.type_inv)) (omega (arith, c.stop_line-line.type_inv)) (omega (arith, c.stop_line-line.type_inv))))
-
-pub slice_bounds-advance-end : goal.slice_bounds-advance-end
-slice_bounds-advance-end c =
-    sym (length-take-le c.used-end.result c.args.windows.now (omega (arith, c.used-end.ensures.1, c.requires.in_bounds)))
+    telling-stop v.invariant.0 (sym c.stops.ensures ∙ c.if-stops.true) c.stop_line-line.ensures c.put_quick_line-put.ensures (omega (arith, c.loop-put-test.true, c.requires.put_in_bounds))
+    (omega (arith, c.put_quick_line-put.ensures.past, line-most c.stop_line-line.result (omega (arith, c.stop_line-line.type_inv)) (omega (arith, c.stop_line-line.type_inv)) (omega (arith, c.stop_line-line.type_inv))))
 
 pub advance-advanced-requires : goal.advance-advanced-requires
 advance-advanced-requires c =
     let go = sym c.stops.ensures ∙ c.if-stops.false in
     let p = telling-acceptable c.loop-put.invariant.0 go in record { settings_value = p.legal; engine_value = p.well; memory_len_bound = p.small }
-
-pub put_line-put-requires : goal.put_line-put-requires
-put_line-put-requires c =
-    record { tables = c.requires.tables; at_in_bounds = omega (arith, c.loop-put-test.true, c.requires.put_in_bounds, c.loop-put.invariant.0.same) }
-
-pub overflow_sub-left : goal.overflow_sub-left
-overflow_sub-left c =
-    let go = sym c.stops.ensures ∙ c.if-stops.false in
-    omega (arith, (telling-goes c.loop-put.invariant.0 go).some)
-
-pub overflow_add-taken : goal.overflow_add-taken
-overflow_add-taken c =
-    let go = sym c.stops.ensures ∙ c.if-stops.false in
-    omega (arith, (telling-goes c.loop-put.invariant.0 go).fewer)
 
 pub loop-put-smaller : goal.loop-put-smaller
 loop-put-smaller c =
@@ -86,12 +53,6 @@ loop-put-preserved c =
       refl,
       refl,
     )
-
-pub shape_of-memory : goal.shape_of-memory
-shape_of-memory c = c.loop-put.invariant.0.memory
-
-pub shape_of-out : goal.shape_of-out
-shape_of-out c = c.loop-put.invariant.0.same
 
 pub returns : goal.returns
 returns c =

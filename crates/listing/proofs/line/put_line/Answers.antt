@@ -1,18 +1,5 @@
-use native.Mathlib.Omega.{arith}
-use Rattle.listing.proofs.Lines.{closed-length, parts-most, line-put}
+use Rattle.listing.proofs.Lines.{line-put}
 use Rattle.listing.proofs.line.put_line.Goals as goal
-
-pub put_word-after_word-requires : goal.put_word-after_word-requires
-put_word-after_word-requires c =
-    omega (arith, closed-length c.args.line.sequence 32, parts-most c.args.line (omega arith) (omega arith) (omega arith))
-
-pub put_number-after_first-requires : goal.put_number-after_first-requires
-put_number-after_first-requires c =
-    record { tables = c.requires.tables; at_in_bounds = omega (arith, closed-length c.args.line.sequence 32, c.put_word-after_word.ensures.0, parts-most c.args.line (omega arith) (omega arith) (omega arith)) }
-
-pub put_number-requires : goal.put_number-requires
-put_number-requires c =
-    record { tables = c.requires.tables; at_in_bounds = omega (arith, closed-length c.args.line.sequence 32, closed-length c.args.line.first 32, c.put_word-after_word.ensures.0, parts-most c.args.line (omega arith) (omega arith) (omega arith)) }
 
 pub returns : goal.returns
 returns c =

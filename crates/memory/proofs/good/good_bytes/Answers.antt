@@ -1,35 +1,24 @@
-use mathlib.Core.Path.{◌≡◌, refl, sym, ap, ◌∙◌}
-use Prim.Native.Nat.{ℕ, ◌+◌, ◌-◌}
+use mathlib.Core.Path.{sym, ap, ◌∙◌}
 use native.Mathlib.Omega.{arith}
-use lib.ListN.{drop}
+use Prim.Native.Nat.{ℕ, ◌-◌}
+use Rattle.memory.specs.declared.window.Window.{Window}
 use Rattle.memory.specs.Windows.{windows_of}
-use Rattle.memory.specs.Good.{good_end}
+use Rattle.memory.specs.Good.{nearer_end, good_end}
 use Rattle.memory.proofs.GoodBytes.{good-end, good-on}
 use Rattle.memory.proofs.good.good_bytes.Goals as goal
 
-pub loop-i-init : goal.loop-i-init
-loop-i-init c = (omega arith, refl)
-
-pub loop-i-smaller : goal.loop-i-smaller
-loop-i-smaller c = omega arith
-
-pub loop-i-preserved : goal.loop-i-preserved
-loop-i-preserved c =
-    let v = c.loop-i in
-    let a = c.args in (
-      omega arith,
-      ap (good_end (windows_of (drop (v.i + 2) a.windows.now)) a.start) c.nearer_end-end.ensures
-          ∙ good-on a.windows.now v.i a.start v.end c.loop-i-test.true ∙ v.invariant.1,
+pub loop-pair-preserved : goal.loop-pair-preserved
+loop-pair-preserved c =
+    let v = c.loop-pair in
+    let s = c.in-Some.ensures.steps in
+    let near = c.nearer_end-end.ensures ∙ ap (λ (w : Window). nearer_end w c.args.start v.end) c.window_in-window.ensures in (
+      s.0 ∙ v.invariant.0,
+      ap (good_end (windows_of c.next.new.self.rest.now) c.args.start) near
+          ∙ good-on _ _ _ s.1.0 (s.1.1 ∙ v.invariant.0) _ v.end ∙ v.invariant.1,
     )
 
-pub returns-then-start-end : goal.returns-then-start-end
-returns-then-start-end c =
-    let v = c.loop-i in
-    ap (λ (e : ℕ). e - c.args.start) (sym (good-end _ v.i _ v.end c.loop-i-test.false) ∙ v.invariant.1)
-
-pub returns-else-start-end : goal.returns-else-start-end
-returns-else-start-end c =
-    let v = c.loop-i in
-    let a = c.args in
-    let none : 0 ≡ v.end - a.start = omega (arith, c.if-start-end.false) in
-    none ∙ ap (λ (e : ℕ). e - a.start) (sym (good-end a.windows.now v.i a.start v.end c.loop-i-test.false) ∙ v.invariant.1)
+pub returns : goal.returns
+returns c =
+    let v = c.loop-pair in
+    c.saturating_sub.ensures
+    ∙ ap (λ (e : ℕ). e - c.args.start) (sym (good-end _ _ v.end (omega (arith, c.in-None.ensures.steps, v.invariant.0))) ∙ v.invariant.1)

@@ -10,5 +10,5 @@ pub returns : goal.returns
 returns c =
     let a = c.args in
     c.both.ensures
-    ∙ ap₂ (λ (x y : ℕ). both (ltb x a.window.length) (ltb y a.bytes)) c.gap.ensures c.gap-2.ensures
+    ∙ ap₂ (λ (x y : ℕ). both (ltb x a.window.length) (ltb y a.bytes)) c.saturating_sub.ensures c.saturating_sub-2.ensures
     ∙ touches-gaps a.window a.start a.bytes c.requires

@@ -2,7 +2,7 @@ use mathlib.Core.Path.{ap, ◌∙◌}
 use mathlib.Core.Logic.{inl, inr}
 use Prim.Native.Nat.{ℕ, ◌+◌}
 use native.Mathlib.Omega.{arith}
-use Rattle.places.specs.declared.found.Found.TheVariants.{At}
+use Rattle.std.proofs.Common.{Some}
 use Rattle.places.proofs.Groups.{sick-none, sick-first}
 use Rattle.places.proofs.group.first_sick.Goals as goal
 
@@ -17,4 +17,4 @@ pub returns : goal.returns
 returns c =
     let a = c.args in
     let e = c.good_bytes-good.ensures in
-    ap (λ (n : ℕ). At (a.start + n)) e ∙ sick-first _ _ _ _ (omega (arith, e, c.if-good-bytes.false)) (omega (arith, e, c.if-at-size.false))
+    ap (λ (n : ℕ). Some (a.start + n)) e ∙ sick-first _ _ _ _ (omega (arith, e, c.if-good-bytes.false)) (omega (arith, e, c.if-at-size.false))

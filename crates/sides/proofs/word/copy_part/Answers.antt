@@ -1,4 +1,4 @@
-use Rattle.sides.proofs.Parts.{copied-part}
+use Rattle.memory.proofs.Copies.{copied-part}
 use Rattle.sides.proofs.word.copy_part.Goals as goal
 
 -- The copy of a part meets its contract.

@@ -1,45 +1,16 @@
 use native.Mathlib.Omega.{arith}
-use native.Mathlib.Nat.{mod-lt}
 use Rattle.sides.proofs.Words.{word_fits, word-put}
 use Rattle.sides.proofs.word.write_word.Goals as goal
 
 -- The write of a fixed word meets its contract.
-pub overflow_sub-width : goal.overflow_sub-width
-overflow_sub-width c = omega (arith, mod-lt c.args.from c.requires.width_nonzero.0)
-
-pub overflow_add-start : goal.overflow_add-start
-overflow_add-start c =
-    let p = c in
-    omega
-    (arith, word_fits _ p.args.start p.args.from _ _ p.requires.width_nonzero.0 p.requires.width_nonzero.3 c.least-first.ensures _ p.requires.width_nonzero.2 p.requires.inside)
-
 pub copy_part-requires : goal.copy_part-requires
 copy_part-requires c =
-    let p = c in
-    let fits = word_fits _ p.args.start p.args.from _ _ p.requires.width_nonzero.0 p.requires.width_nonzero.3 c.least-first.ensures _ p.requires.width_nonzero.2 p.requires.inside in
+    let p = c.requires in
+    let fits = word_fits _ c.args.start c.args.from _ _ p.width_nonzero.0 p.width_nonzero.3 c.min-first.ensures _ p.width_nonzero.2 p.inside in
     (omega arith, fits.0)
-
-pub copy_part-requires-2 : goal.copy_part-requires-2
-copy_part-requires-2 c =
-    let p = c in
-    let fits = word_fits _ p.args.start p.args.from _ _ p.requires.width_nonzero.0 p.requires.width_nonzero.3 c.least-first.ensures _ p.requires.width_nonzero.2 p.requires.inside in
-    (omega arith, omega arith)
 
 pub returns : goal.returns
 returns c =
-    let p = c in
-    word-put _ p.args.start p.args.from _ _ p.requires.width_nonzero.0 p.requires.width_nonzero.3
-    c.least-first.ensures _ _ _ _ p.requires.width_nonzero.4
+    let p = c.requires in
+    word-put _ c.args.start c.args.from _ _ p.width_nonzero.0 p.width_nonzero.3 c.min-first.ensures _ _ _ _ p.width_nonzero.4
     c.copy_part.ensures c.copy_part-2.ensures
-
-pub nonzero_rem-offset : goal.nonzero_rem-offset
-nonzero_rem-offset c = omega arith
-
-pub overflow_sub-count : goal.overflow_sub-count
-overflow_sub-count c = omega arith
-
-pub shape_of-memory : goal.shape_of-memory
-shape_of-memory c = omega arith
-
-pub least-first-requires : goal.least-first-requires
-least-first-requires c = tt

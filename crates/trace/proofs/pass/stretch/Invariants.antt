@@ -6,7 +6,7 @@ use Rattle.trace.proofs.pass.stretch.Given as goal
 
 abbrev pub invariant-loop-put : goal.invariant-loop-put
 invariant-loop-put l =
-    Stretching l.base l.input l.ended l.initial.session l.at-2 l.initial.memory l.initial.windows l.initial.out l.put-2 l.session l.at l.memory l.windows l.out l.put
+    Stretching l.part.base l.part.input.now l.part.ended l.initial.session l.at-2 l.initial.memory l.initial.windows l.initial.out l.put-2 l.session l.at l.memory l.windows l.out l.put
 
 abbrev pub decreases-loop-put : goal.decreases-loop-put
 decreases-loop-put l = 3 * (length l.initial.out - l.put) + weight l.session.mode

@@ -1,4 +1,0 @@
-use Rattle.state.proofs.engine.transfer_fits.Goals as goal
-
-pub returns : goal.returns
-returns c = cc

@@ -40,7 +40,9 @@ pub struct DigitTables {
 }
 
 impl DigitTables {
-    pub fn new() -> Self {
+    pub fn new() -> Self
+        ensures { Tables result.leading result.padded }
+    {
         let mut leading = [0; 1000];
         let mut padded = [0; 1000];
         for value in 0..1000 {

@@ -1,5 +1,5 @@
 -- Every write is refused or one of the changes of specs/Changes.antt, and what it keeps goes by these cases.
-use mathlib.Core.Path.{◌≡◌, refl, sym, ◌∙◌}
+use mathlib.Core.Path.{◌≡◌, refl, sym, ap, ◌∙◌}
 use Prim.Native.Nat.{ℕ, ◌/◌, ◌%◌, ◌^◌, ◌<◌}
 use mathlib.Core.Bool.{Bool, true, false, not}
 use native.Mathlib.Nat.{mul-mod_left, mod-lt}
@@ -10,7 +10,10 @@ use Rattle.kit.specs.Choice.{both, either}
 use Rattle.kit.specs.Limits.{most_bytes}
 use Rattle.kit.specs.Settings.{among, legal_of}
 use Rattle.kit.proofs.Choice.{cases, never, neither}
-use Rattle.std.specs.Prelude.{Option, Some, None}
+use Rattle.std.specs.Prelude.{Option, Some, None, Result, Err, ⊤}
+use Rattle.kit.specs.Answer.{number_of}
+use Rattle.kit.specs.declared.answer.Refusal.{Refusal}
+use Rattle.reads.proofs.Refused.{refused as no-number}
 use Rattle.state.specs.declared.engine.Control.{Control}
 use Rattle.state.specs.declared.engine.Engine.{Engine}
 use Rattle.state.specs.declared.engine.Transfer.{Transfer}
@@ -22,7 +25,7 @@ use Rattle.state.specs.Descriptor.{count_of, start_of}
 use Rattle.state.proofs.Start.{start_fits}
 use Rattle.state.proofs.WellFormed.{WellFormed, Parts, well-formed, parts, joined, aligned-test, not-both, fresh-well-formed}
 use Rattle.reads.specs.Read.{upper_halves}
-use Rattle.registers.specs.Write.{AfterWrite, differ, control_from, mode_differs, guard_of, write_control_of, write_tail_of, started_of, write_count_of, register_written_of, write_of}
+use Rattle.registers.specs.Write.{AfterWrite, differ, control_from, mode_differs, guard_of, write_control_of, write_tail_of, started_of, write_count_of, register_written_of, write_of, ignored, left}
 use Rattle.registers.specs.Changes.{Free, Change, resets, controls, clears, points, extends, fetches, sources, destinations, moves, fails, nothing, Write, refused, changed}
 use Rattle.registers.specs.Claims.{Words}
 
@@ -109,6 +112,14 @@ write-refused s offset v {n} e f = go (writes s offset v) e
     go : {w : AfterWrite} → Write s offset v w → w.answer ≡ n → w.engine ≡ s
     go (refused _ _) _ = refl
     go (changed _) g = absurd (f (sym g))
+
+-- a write to a lent engine that is refused, told of an engine by value
+pub refused-stays : (s : Engine) (offset v : ℕ) {r : Result ⊤ Refusal} {refusal : Refusal} {next : Engine} → left r next ≡ write_of s offset v → r ≡ Err refusal
+    → ignored (number_of refusal) s ≡ write_of s offset v
+refused-stays s offset v {refusal = refusal} {next = next} e is =
+    let answered = ap (λ (r : Result ⊤ Refusal). left r next) (sym is) ∙ e in
+    let stays = write-refused s offset v (sym (ap (λ (w : AfterWrite). w.answer) answered)) (λ z. no-number refusal (sym z)) in
+    cc
 
 words-stay : {s : Engine} {offset v : ℕ} → v < 2 ^ 32 → Words s → {t : Engine} → Change s offset v t → Words t
 words-stay h w (resets _ _) = record { source-word = omega arith; destination-word = omega arith }

@@ -1,11 +1,11 @@
 -- What is proved of every write: proofs/Claims.antt.
-use Rattle.std.specs.Prelude.{◌≡◌, ℕ, ◌^◌, ◌<◌, true, Result}
+use Rattle.std.specs.Prelude.{◌≡◌, ℕ, ◌^◌, ◌<◌, true, Result, ⊤}
 use Rattle.kit.specs.Limits.{address_end}
 use Rattle.kit.specs.declared.answer.Refusal.{Refusal}
 use Rattle.state.specs.declared.engine.Engine.{Engine}
 use Rattle.state.specs.declared.engine.Simple.{Simple}
 use Rattle.state.specs.State.{well_formed_of}
-use Rattle.registers.specs.Write.{AfterWrite, write_of, write_seen}
+use Rattle.registers.specs.Write.{AfterWrite, write_of, write_seen, left}
 use Rattle.registers.specs.Changes.{Write}
 
 -- SA and DA are 32-bit registers
@@ -19,6 +19,8 @@ Words s = WordsOf s.simple
 pub record Claims : Type 0 where
   -- two results that one contract allows are equal
   pub write-unique : (s : Engine) {r q : Result Engine Refusal} {x : AfterWrite} → write_seen s r ≡ x → write_seen s q ≡ x → r ≡ q
+  -- and of a lent engine the answers and the engines
+  pub left-unique : {r q : Result ⊤ Refusal} {s t : Engine} {x : AfterWrite} → left r s ≡ x → left q t ≡ x → (r ≡ q) × (s ≡ t)
   -- a write is refused and leaves the state, or is one of the changes of specs/Changes.antt
   pub writes : (s : Engine) (offset v : ℕ) → Write s offset v (write_of s offset v)
   pub write-refused : (s : Engine) (offset v : ℕ) {n : ℕ} → (write_of s offset v).answer ≡ n → (n ≡ 0 → ⊥) → (write_of s offset v).engine ≡ s

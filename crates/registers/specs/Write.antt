@@ -1,7 +1,7 @@
 -- RULES.md, "Registers": what a write does.
 use Rattle.std.specs.Prelude.{ℕ, Bool, true, not, eqb, Option, Some, None, Result, Ok, Err}
 use Rattle.kit.specs.Choice.{when, both, either}
-use Rattle.kit.specs.Answer.{number_of}
+use Rattle.kit.specs.Answer.{number_of, answer_number}
 use Rattle.kit.specs.Settings.{among, legal_of}
 use Rattle.state.specs.declared.engine.Engine.{Engine}
 use Rattle.kit.specs.declared.answer.Refusal.{Refusal}
@@ -125,3 +125,7 @@ write_of s offset v =
 abbrev pub write_seen : Engine → Result Engine Refusal → AfterWrite
 write_seen s (Ok next) = done next
 write_seen s (Err refusal) = ignored (number_of refusal) s
+
+-- what a write leaves of a lent engine beside its answer
+abbrev pub left : {A : Type 0} → Result A Refusal → Engine → AfterWrite
+left r next = record { answer = answer_number r; engine = next }

@@ -3,10 +3,6 @@ use mathlib.Core.Path.{◌≡◌, sym, ap, subst}
 use mathlib.Core.Bool.{Bool, true}
 use mathlib.Core.List.{List}
 use Prim.Native.Nat.{ℕ, ◌+◌}
-use Rattle.std.specs.Prelude.{Result, Ok, Err}
-use Rattle.kit.specs.declared.answer.Refusal.{Refusal}
-use Rattle.kit.specs.Answer.{number_of}
-use Rattle.state.specs.declared.engine.Engine.{Engine}
 use Rattle.kit.specs.Word.{word_at, half_at}
 use Rattle.registers.specs.Write as registers-written
 use Rattle.record.specs.declared.reading.Body.TheVariants.{Write}
@@ -26,14 +22,6 @@ pub as_written : (s : Session) (sequence offset value position : ℕ) (input : L
     → (lent : Lent) → after (written_of s sequence offset v) lent ≡ apply_of s sequence position input at lent (Write offset value)
 unfolding apply_of
 as_written s sequence offset value position input at j lent = ap (λ (v : registers-written.AfterWrite). after (written_of s sequence offset v) lent) j
-
--- what a write left and answered, put together from its result: done, or refused
-module _ (e : Engine) {r : Result Engine Refusal} {w : registers-written.AfterWrite} (seen : registers-written.write_seen e r ≡ w) {answer : ℕ} {engine : Engine} where
-  pub as-done : {after : Engine} → r ≡ Ok after → answer ≡ 0 → engine ≡ after → record { answer = answer; engine = engine } ≡ w
-  as-done is a b = cc
-
-  pub as-refused : {refusal : Refusal} → r ≡ Err refusal → answer ≡ number_of refusal → engine ≡ e → record { answer = answer; engine = engine } ≡ w
-  as-refused is a b = cc
 
 pub write-order : (base : ℕ) (input : List ℕ) (at : ℕ) (ended : Bool) (put room : ℕ) (s : Session) → s.mode ≡ Records
     → goes_on_writing s.chosen input at ended put room s.sequence ≡ true

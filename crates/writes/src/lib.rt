@@ -2,29 +2,31 @@
 #![tactic(auto)]
 
 ghost use Rattle.std.specs.Prelude.{◌≡◌, ◌+◌, ◌≤◌, length};
+ghost use Rattle.kit.specs.Answer.{answer_number};
 ghost use Rattle.record.specs.declared.reading.Body.TheVariants.{Write};
 ghost use Rattle.session.specs.Effect.{write_line_of};
 ghost use Rattle.session.specs.Pass.{InOrder, TakesOnly};
 
 use digits::tables::DigitTables;
+use kit::answer::{Answer, number};
 use kit::word::{load, load_half};
 use listing::line::{Line, put_quick_line};
 use listing::word::Word;
 use record::size;
-use registers::write::write;
+use registers::write::write_to;
 use session::part::Part;
 use session::ready::goes_on_writing;
 use session::{Passed, Session};
 
 // A write that is refused prints its answer and goes on.
-fn write_line(sequence: u32, offset: u32, answer: u32) -> Line
-    ensures { result ≡ write_line_of sequence offset answer }
+fn write_line(sequence: u32, offset: u32, answer: Answer) -> Line
+    ensures { result ≡ write_line_of sequence offset (answer_number answer) }
 {
     Line {
         sequence,
         word: Word::Write,
         first: offset as u64,
-        second: answer as u64,
+        second: number(answer) as u64,
     }
 }
 
@@ -58,13 +60,7 @@ pub fn writes(
     // No `for`: a turn moves on by what it read and put, and may be the last. No loop shared with `clocks`: each carries a state
     // of its own, and reads the fields of its own record.
     loop {
-        let answer = match write(engine, offset, value) {
-            Ok(after) => {
-                engine = after;
-                0
-            }
-            Err(refusal) => refusal.number(),
-        };
+        let answer = write_to(&mut engine, offset, value);
         let line = write_line(sequence, offset, answer);
         put = put_quick_line::<0>(tables, out, put, line);
         before = sequence;

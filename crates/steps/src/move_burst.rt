@@ -177,11 +177,15 @@ pub fn move_burst(
         transfer.moved,
         bytes,
     );
-    let (outcome, bit) = match verdict {
-        Verdict::Okay => return after_burst(engine, transfer, told, bytes),
-        Verdict::Slave => (Outcome::Slave, ErrorBit::DmaSlvErr),
-        Verdict::Decode => (Outcome::Decode, ErrorBit::DmaDecErr),
-    };
-    let place = fault_at(control, moving, size, windows, bytes, verdict);
-    after_fault(engine, place, outcome, bit)
+    match verdict {
+        Verdict::Okay => after_burst(engine, transfer, told, bytes),
+        Verdict::Slave => {
+            let place = fault_at(control, moving, size, windows, bytes, Verdict::Slave);
+            after_fault(engine, place, Outcome::Slave, ErrorBit::DmaSlvErr)
+        }
+        Verdict::Decode => {
+            let place = fault_at(control, moving, size, windows, bytes, Verdict::Decode);
+            after_fault(engine, place, Outcome::Decode, ErrorBit::DmaDecErr)
+        }
+    }
 }
